@@ -1,0 +1,174 @@
+-- Rows of fields, at any widths (mixed radix): packing what was unpacked gives the word back, and unpacking what was packed gives
+-- the values back where each is within its width. Assumes nothing.
+use mathlib.Core.Path.{_≡_, refl, sym, ap, ap₂, _∙_, subst}
+use mathlib.Core.List.{List, [], _∷_, map}
+use mathlib.Core.Bool.{Bool, true, false, _&&_, and-true, and-false, and-assoc}
+use Prim.Native.Nat.{ℕ, _+_, _*_, _/_, _%_, _^_, _≤_, _<_}
+use native.Mathlib.Nat.{add-mul, mul-assoc, mul-comm, mul-one, div-one, zero-mul, add-comm, zero-add, add-zero, mod-lt, mod-mod, mod-one, mod-eq-of-lt}
+use native.Mathlib.Omega.{arith}
+use lib.Pow.{pow-pos, pow-add, shr-shr, mod-pow-add, high, low, shl-exact}
+use lib.Bits.{bitOr, or-shifted-r}
+use lib.Arith.{digits-lt}
+use lib.Dec.{ltb, eqb}
+use borrow.Author.Tests.{ltb-true, lt-ltb, eqb-true}
+use Rattle.bits.specs.Fields.{fieldOf, placeOf, total, unpack, pack, within, Field, widthOf, fieldsOf, fillsWord}
+
+-- both halves of a test
+pub both : (a b : Bool) → a && b ≡ true → (a ≡ true) × (b ≡ true)
+both true b h = (refl, h)
+both false b h = let z : _≡_ {A = ℕ} 0 1 = cc in absurd (omega arith)
+
+-- ---- the same rows as digits of a number, lowest first, with no offset
+
+abbrev digits : List ℕ → ℕ → List ℕ
+digits [] n = []
+digits (w ∷ ws) n = n % 2 ^ w ∷ digits ws (n / 2 ^ w)
+
+abbrev number : List ℕ → List ℕ → ℕ
+number [] vs = 0
+number (w ∷ ws) [] = 0
+number (w ∷ ws) (v ∷ vs) = number ws vs * 2 ^ w + v % 2 ^ w
+
+unpack-digits : (o : ℕ) (ws : List ℕ) (n : ℕ) → unpack o ws n ≡ digits ws (n / 2 ^ o)
+unpack-digits o [] n = refl
+unpack-digits o (w ∷ ws) n =
+    ap (λ (l : List ℕ). fieldOf n o w ∷ l) (unpack-digits (o + w) ws n ∙ ap (digits ws) (sym (shr-shr n o w)))
+
+pack-number : (o : ℕ) (ws vs : List ℕ) → pack o ws vs ≡ number ws vs * 2 ^ o
+pack-number o [] vs = sym (zero-mul (2 ^ o))
+pack-number o (w ∷ ws) [] = sym (zero-mul (2 ^ o))
+pack-number o (w ∷ ws) (v ∷ vs) =
+    let n = number ws vs in
+    let x = v % 2 ^ w in
+    ap (λ (y : ℕ). x * 2 ^ o + y)
+    (pack-number (o + w) ws vs
+    ∙ ap (λ (y : ℕ). n * y) (pow-add 2 o w ∙ mul-comm (2 ^ o) (2 ^ w))
+    ∙ sym (mul-assoc n (2 ^ w) (2 ^ o)))
+    ∙ add-comm (x * 2 ^ o) (n * 2 ^ w * 2 ^ o)
+    ∙ sym (add-mul (n * 2 ^ w) x (2 ^ o))
+
+-- the first value of a row that is within its widths, and the rest
+module _ (w v : ℕ) (ws vs : List ℕ) (h : within (w ∷ ws) (v ∷ vs) ≡ true) where
+  first-within : v < 2 ^ w
+  first-within = ltb-true v (2 ^ w) (both (ltb v (2 ^ w)) (within ws vs) h .0)
+
+  rest-within : within ws vs ≡ true
+  rest-within = both (ltb v (2 ^ w)) (within ws vs) h .1
+
+digits-number : (ws vs : List ℕ) → within ws vs ≡ true → digits ws (number ws vs) ≡ vs
+digits-number [] [] h = refl
+digits-number [] (v ∷ vs) h = let z : _≡_ {A = ℕ} 0 1 = cc in absurd (omega arith)
+digits-number (w ∷ ws) [] h = let z : _≡_ {A = ℕ} 0 1 = cc in absurd (omega arith)
+digits-number (w ∷ ws) (v ∷ vs) h =
+    let n = number ws vs in
+    let l : v % 2 ^ w < 2 ^ w = mod-lt v (pow-pos w) in
+    ap₂ (λ (x : ℕ) (xs : List ℕ). x ∷ xs)
+    (low n w l ∙ mod-eq-of-lt (first-within w v ws vs h))
+    (ap (digits ws) (high n w l) ∙ digits-number ws vs (rest-within w v ws vs h))
+
+number-digits : (ws : List ℕ) (n : ℕ) → number ws (digits ws n) ≡ n % 2 ^ total ws
+number-digits [] n = sym (mod-one n)
+number-digits (w ∷ ws) n =
+    ap₂ (λ (a b : ℕ). a * 2 ^ w + b) (number-digits ws (n / 2 ^ w)) (mod-mod n (2 ^ w))
+    ∙ sym (mod-pow-add n (total ws) w)
+    ∙ ap (λ (k : ℕ). n % 2 ^ k) (add-comm (total ws) w)
+
+number-lt : (ws vs : List ℕ) → number ws vs < 2 ^ total ws
+number-lt [] vs = pow-pos 0
+number-lt (w ∷ ws) [] = pow-pos (w + total ws)
+number-lt (w ∷ ws) (v ∷ vs) =
+    subst (λ (m : ℕ). number (w ∷ ws) (v ∷ vs) < m) (mul-comm (2 ^ total ws) (2 ^ w) ∙ sym (pow-add 2 w (total ws)))
+    (digits-lt (number-lt ws vs) (mod-lt v (pow-pos w)))
+
+-- ---- a word and its row of fields, from bit 0
+
+pack-number-0 : (ws vs : List ℕ) → pack 0 ws vs ≡ number ws vs
+pack-number-0 ws vs = pack-number 0 ws vs ∙ mul-one (number ws vs)
+
+unpack-digits-0 : (ws : List ℕ) (n : ℕ) → unpack 0 ws n ≡ digits ws n
+unpack-digits-0 ws n = unpack-digits 0 ws n ∙ ap (digits ws) (div-one n)
+
+-- a word is the packing of its fields
+pub pack-unpack : (ws : List ℕ) (n : ℕ) → n < 2 ^ total ws → pack 0 ws (unpack 0 ws n) ≡ n
+pack-unpack ws n h =
+    ap (pack 0 ws) (unpack-digits-0 ws n) ∙ pack-number-0 ws (digits ws n) ∙ number-digits ws n ∙ mod-eq-of-lt h
+
+-- the fields of a packed word are the values, where each is within its width
+pub unpack-pack : (ws vs : List ℕ) → within ws vs ≡ true → unpack 0 ws (pack 0 ws vs) ≡ vs
+unpack-pack ws vs h =
+    ap (unpack 0 ws) (pack-number-0 ws vs) ∙ unpack-digits-0 ws (number ws vs) ∙ digits-number ws vs h
+
+-- a packed word takes no more bits than its fields
+pub pack-lt : (ws vs : List ℕ) → pack 0 ws vs < 2 ^ total ws
+pack-lt ws vs = subst (λ (n : ℕ). n < 2 ^ total ws) (sym (pack-number-0 ws vs)) (number-lt ws vs)
+
+within-unpack-from : (o : ℕ) (ws : List ℕ) (n : ℕ) → within ws (unpack o ws n) ≡ true
+within-unpack-from o [] n = refl
+within-unpack-from o (w ∷ ws) n =
+    ap₂ (λ (a b : Bool). a && b) (lt-ltb (fieldOf n o w) (2 ^ w) (mod-lt (n / 2 ^ o) (pow-pos w))) (within-unpack-from (o + w) ws n)
+
+-- what is unpacked is within its widths
+pub within-unpack : (ws : List ℕ) (n : ℕ) → within ws (unpack 0 ws n) ≡ true
+within-unpack ws n = within-unpack-from 0 ws n
+
+-- ---- rows as code makes and tests them
+
+-- `place(a, 0, 22) | place(b, 22, 4) | ..`, from acc on
+abbrev pub joined : ℕ → ℕ → List ℕ → List ℕ → ℕ
+joined acc o [] vs = acc
+joined acc o (w ∷ ws) [] = acc
+joined acc o (w ∷ ws) (v ∷ vs) = joined (bitOr acc (placeOf v o w)) (o + w) ws vs
+
+joined-from : (acc o : ℕ) (ws vs : List ℕ) → acc < 2 ^ o → o + total ws ≤ 32 → joined acc o ws vs ≡ acc + pack o ws vs
+joined-from acc o [] vs h l = sym (add-zero acc)
+joined-from acc o (w ∷ ws) [] h l = sym (add-zero acc)
+joined-from acc o (w ∷ ws) (v ∷ vs) h l =
+    let x = v % 2 ^ w in
+    let small : x < 2 ^ w = mod-lt v (pow-pos w) in
+    let put : bitOr acc (placeOf v o w) ≡ x * 2 ^ o + acc =
+    ap (bitOr acc) (shl-exact w o 32 small (omega arith)) ∙ or-shifted-r x o acc h in
+    let next : x * 2 ^ o + acc < 2 ^ (o + w) =
+    subst (λ (m : ℕ). x * 2 ^ o + acc < m) (mul-comm (2 ^ w) (2 ^ o) ∙ sym (pow-add 2 o w)) (digits-lt small h) in
+    ap (λ (a : ℕ). joined a (o + w) ws vs) put ∙ joined-from (x * 2 ^ o + acc) (o + w) ws vs next (omega arith) ∙ (omega arith)
+
+-- what code joins by `|` is the packed word
+pub joined-pack : (ws vs : List ℕ) → total ws ≤ 32 → joined 0 0 ws vs ≡ pack 0 ws vs
+joined-pack ws vs l = joined-from 0 0 ws vs (pow-pos 0) (omega arith) ∙ zero-add (pack 0 ws vs)
+
+-- `(a < 0x400000) & (b < 0x10) & ..`, from t on
+abbrev pub tested : Bool → List ℕ → List ℕ → Bool
+tested t [] [] = t
+tested t [] (v ∷ vs) = false
+tested t (w ∷ ws) [] = false
+tested t (w ∷ ws) (v ∷ vs) = tested (t && ltb v (2 ^ w)) ws vs
+
+-- what code tests by `&` is that each value is within its width, and what was tested before
+pub tested-within : (t : Bool) (ws vs : List ℕ) → tested t ws vs ≡ t && within ws vs
+tested-within t [] [] = sym (and-true t)
+tested-within t [] (v ∷ vs) = sym (and-false t)
+tested-within t (w ∷ ws) [] = sym (and-false t)
+tested-within t (w ∷ ws) (v ∷ vs) = tested-within (t && ltb v (2 ^ w)) ws vs ∙ and-assoc t (ltb v (2 ^ w)) (within ws vs)
+
+-- ---- tables
+
+fields-unpack-from : (o : ℕ) (fs : List Field) (n : ℕ) → fillsWord o fs ≡ true → fieldsOf fs n ≡ unpack o (map widthOf fs) n
+fields-unpack-from o [] n h = refl
+fields-unpack-from o (f ∷ fs) n h =
+    let b = both (eqb (f .offset) o) (fillsWord (o + f .width) fs) h in
+    ap₂ (λ (x : ℕ) (xs : List ℕ). x ∷ xs)
+    (ap (λ (k : ℕ). fieldOf n k (f .width)) (eqb-true (f .offset) o (b .0)))
+    (fields-unpack-from (o + f .width) fs n (b .1))
+
+-- the fields of a table that fills the word are the row of its widths
+pub fields-unpack : (fs : List Field) (n : ℕ) → fillsWord 0 fs ≡ true → fieldsOf fs n ≡ unpack 0 (map widthOf fs) n
+fields-unpack fs n h = fields-unpack-from 0 fs n h
+
+total-from : (o : ℕ) (fs : List Field) → fillsWord o fs ≡ true → o + total (map widthOf fs) ≡ 32
+total-from o [] h = omega (arith, eqb-true o 32 h)
+total-from o (f ∷ fs) h =
+    let b = both (eqb (f .offset) o) (fillsWord (o + f .width) fs) h in
+    omega (arith, total-from (o + f .width) fs (b .1))
+
+-- such a table has 32 bits
+pub total-of-table : (fs : List Field) → fillsWord 0 fs ≡ true → total (map widthOf fs) ≡ 32
+total-of-table fs h = omega (arith, total-from 0 fs h)

@@ -1,0 +1,54 @@
+-- The cap of 64 bits is out of the way: it changes no number that 64 bits hold, and no comparison with a limit below it. So no
+-- ADDR of 32 bits can seem to lie inside a buffer by wrapping round. Assumes nothing.
+use mathlib.Core.Path.{_≡_, refl, ap, sym, _∙_}
+use mathlib.Core.Bool.{Bool, true, false}
+use Prim.Native.Nat.{ℕ, _+_, _*_, _-_, _^_, _<_, _≤_}
+use native.Mathlib.Omega.{arith}
+use lib.Dec.{leb}
+use borrow.Author.Tests.{leb-true, leb-false, le-leb, lt-leb}
+use Rattle.units.specs.declared.Quadwords.{Quadwords}
+use Rattle.units.specs.declared.Slots.{Slots}
+use Rattle.units.specs.Units.{quadwords, slots, words, capped, lowWord, highWord, counted, slotsLength, fetchesLength, rangeEnd, isAtMost}
+
+pub capped-exact : (n : ℕ) → n < 2 ^ 64 → capped n ≡ n
+capped-exact n h = omega arith
+
+-- a test against a limit gives the same before and after the cap
+pub capped-leb : (n limit : ℕ) → limit < 2 ^ 64 - 1 → leb (capped n) limit ≡ leb n limit
+capped-leb n limit h = by (leb n limit) refl
+  where
+    by : (t : Bool) → leb n limit ≡ t → leb (capped n) limit ≡ t
+    by true e = le-leb (capped n) limit (omega (arith, leb-true n limit e))
+    by false e = lt-leb (capped n) limit (omega (arith, leb-false n limit e))
+
+-- the end of a range is the true sum for any start and length of 32 bits
+pub range-end-exact : (start length : Quadwords) → start .0 < 2 ^ 32 → length .0 < 2 ^ 32 → rangeEnd start length ≡ quadwords (start .0 + length .0)
+range-end-exact start length h k = ap quadwords (capped-exact (start .0 + length .0) (omega arith))
+
+-- and the two words of a quadword are the true ones for any that a buffer can have
+pub low-word-exact : (q : Quadwords) → q .0 < 2 ^ 63 → lowWord q ≡ words (2 * q .0)
+low-word-exact q h = ap words (capped-exact (2 * q .0) (omega arith))
+
+pub high-word-exact : (q : Quadwords) → q .0 < 2 ^ 63 → highWord q ≡ words (2 * q .0 + 1)
+high-word-exact q h = ap words (capped-exact (2 * q .0 + 1) (omega arith))
+
+-- ---- worked examples, by computation
+
+-- the largest ADDR and an ALU clause of 128 slots: the true sum, in no buffer of 8,192 quadwords
+largest-addr : rangeEnd (quadwords 0xffff_ffff) (slotsLength (counted (slots 127))) ≡ quadwords 0x1_0000_007f
+largest-addr = refl
+
+largest-addr-outside : isAtMost (rangeEnd (quadwords 0xffff_ffff) (slotsLength (counted (slots 127)))) (quadwords 8192) ≡ false
+largest-addr-outside = refl
+
+-- COUNT 15 of a fetch opener: 16 fetches, 32 quadwords
+most-fetches : fetchesLength (counted (slots 15)) ≡ quadwords 32
+most-fetches = refl
+
+-- document 01's copy pack: the slot at quadword 2 is words 4 and 5
+third-pair : (lowWord (quadwords 2) ≡ words 4) × (highWord (quadwords 2) ≡ words 5)
+third-pair = (refl, refl)
+
+-- past 64 bits: the largest number, and not a small one
+past-the-cap : rangeEnd (quadwords (2 ^ 64 - 1)) (quadwords 3) ≡ quadwords (2 ^ 64 - 1)
+past-the-cap = refl
