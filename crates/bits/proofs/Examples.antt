@@ -8,7 +8,15 @@ use Rattle.bits.specs.Fields.{fieldOf, placeOf, withField, unpack, pack,
 -- its high word as document 01 lays it out: mode 1, two line addresses, COUNT, ALT_CONST, number, WHOLE_QUAD_MODE, BARRIER
 openerHigh : List Field
 openerHigh =
-    bits 0 2 ∷ bits 2 8 ∷ bits 10 8 ∷ bits 18 7 ∷ bits 25 1 ∷ bits 26 4 ∷ bits 30 1 ∷ bits 31 1 ∷ []
+    bits "KCACHE_MODE1" 0 2
+    ∷ bits "KCACHE_ADDR0" 2 8
+    ∷ bits "KCACHE_ADDR1" 10 8
+    ∷ bits "COUNT" 18 7
+    ∷ bits "ALT_CONST" 25 1
+    ∷ bits "CF_INST" 26 4
+    ∷ bits "WHOLE_QUAD_MODE" 30 1
+    ∷ bits "BARRIER" 31 1
+    ∷ []
 
 -- the table takes each bit once
 filled : fillsWord 0 openerHigh ≡ true

@@ -46,6 +46,10 @@ high-bits n m o p w e l = cut n ∙ ap (λ (x : ℕ). x / 2 ^ (p - o) % 2 ^ w) e
         let e : p ≡ o + (p - o) = omega arith in
         ap (λ (x : ℕ). x % 2 ^ w) (ap (λ (x : ℕ). k / 2 ^ x) e ∙ sym (shr-shr k o (p - o)))
 
+-- the upper bits of a field, as a field of their own
+pub upper-part : (n o k w : ℕ) → fieldOf n (o + k) w ≡ fieldOf n o (w + k) / 2 ^ k
+upper-part n o k w = ap (λ (x : ℕ). x % 2 ^ w) (sym (shr-shr n o k)) ∙ sym (field (n / 2 ^ o) w k)
+
 -- a field that lies in the word
 module _ (n o w : ℕ) (h : n < 2 ^ 32) (l : o + w ≤ 32) where
   -- nothing is cut off

@@ -11,7 +11,7 @@ use lib.Bits.{bitOr, or-shifted-r}
 use lib.Arith.{digits-lt}
 use lib.Dec.{ltb, eqb}
 use borrow.Author.Tests.{ltb-true, lt-ltb, eqb-true}
-use Rattle.bits.specs.Fields.{fieldOf, placeOf, total, unpack, pack, within, Field, widthOf, fieldsOf, fillsWord}
+use Rattle.bits.specs.Fields.{fieldOf, placeOf, total, unpack, pack, within, Field, widthOf, fieldsOf, wordOf, fitsTable, fillsWord}
 
 -- both halves of a test
 pub both : (a b : Bool) → a && b ≡ true → (a ≡ true) × (b ≡ true)
@@ -159,8 +159,7 @@ fields-unpack-from o (f ∷ fs) n h =
     (ap (λ (k : ℕ). fieldOf n k (f .width)) (eqb-true (f .offset) o (b .0)))
     (fields-unpack-from (o + f .width) fs n (b .1))
 
--- the fields of a table that fills the word are the row of its widths
-pub fields-unpack : (fs : List Field) (n : ℕ) → fillsWord 0 fs ≡ true → fieldsOf fs n ≡ unpack 0 (map widthOf fs) n
+fields-unpack : (fs : List Field) (n : ℕ) → fillsWord 0 fs ≡ true → fieldsOf fs n ≡ unpack 0 (map widthOf fs) n
 fields-unpack fs n h = fields-unpack-from 0 fs n h
 
 total-from : (o : ℕ) (fs : List Field) → fillsWord o fs ≡ true → o + total (map widthOf fs) ≡ 32
@@ -169,6 +168,31 @@ total-from o (f ∷ fs) h =
     let b = both (eqb (f .offset) o) (fillsWord (o + f .width) fs) h in
     omega (arith, total-from (o + f .width) fs (b .1))
 
--- such a table has 32 bits
-pub total-of-table : (fs : List Field) → fillsWord 0 fs ≡ true → total (map widthOf fs) ≡ 32
-total-of-table fs h = omega (arith, total-from 0 fs h)
+-- a table that takes each bit of the word once
+module _ (fs : List Field) (h : fillsWord 0 fs ≡ true) where
+  widths-32 : total (map widthOf fs) ≡ 32
+  widths-32 = omega (arith, total-from 0 fs h)
+
+  -- the word that its fields make up
+  pub word-of-fields : (n : ℕ) → n < 2 ^ 32 → wordOf fs (fieldsOf fs n) ≡ n
+  word-of-fields n l =
+      ap (wordOf fs) (fields-unpack fs n h)
+      ∙ pack-unpack (map widthOf fs) n (subst (λ (k : ℕ). n < 2 ^ k) (sym widths-32) l)
+
+  -- the fields of a word made of values that fit
+  pub fields-of-word : (vs : List ℕ) → fitsTable fs vs ≡ true → fieldsOf fs (wordOf fs vs) ≡ vs
+  fields-of-word vs f = fields-unpack fs (wordOf fs vs) h ∙ unpack-pack (map widthOf fs) vs f
+
+  pub fields-fit : (n : ℕ) → fitsTable fs (fieldsOf fs n) ≡ true
+  fields-fit n = ap (fitsTable fs) (fields-unpack fs n h) ∙ within-unpack (map widthOf fs) n
+
+  pub word-lt : (vs : List ℕ) → wordOf fs vs < 2 ^ 32
+  word-lt vs = subst (λ (k : ℕ). wordOf fs vs < 2 ^ k) widths-32 (pack-lt (map widthOf fs) vs)
+
+  -- what code joins by `|`
+  pub joined-word : (vs : List ℕ) → joined 0 0 (map widthOf fs) vs ≡ wordOf fs vs
+  joined-word vs = joined-pack (map widthOf fs) vs (omega (arith, widths-32))
+
+-- what code tests by `&`
+pub tested-fits : (fs : List Field) (vs : List ℕ) → tested true (map widthOf fs) vs ≡ fitsTable fs vs
+tested-fits fs vs = tested-within true (map widthOf fs) vs

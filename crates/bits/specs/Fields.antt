@@ -1,6 +1,7 @@
 -- Fields of a 32-bit word, and a word as a row of fields. Document 002, chapter 10, gives each field by the bits it takes; here
 -- that is an offset, the number of its lowest bit, and a width.
 use Prim.Native.Nat.{ℕ, _+_, _*_, _/_, _%_, _^_}
+use Prim.Native.String.{String}
 use mathlib.Core.List.{List, [], _∷_, map}
 use mathlib.Core.Bool.{Bool, true, false, _&&_}
 use lib.Dec.{ltb, eqb}
@@ -44,14 +45,15 @@ within [] (v ∷ vs) = false
 within (w ∷ ws) [] = false
 within (w ∷ ws) (v ∷ vs) = ltb v (2 ^ w) && within ws vs
 
--- ---- tables of fields, as chapter 10 lists them
+-- ---- tables of fields, as chapter 10 lists them: a field's name, its lowest bit and its number of bits
 
 pub record Field : Type 0 where
+  pub name : String
   pub offset : ℕ
   pub width : ℕ
 
-abbrev pub bits : ℕ → ℕ → Field
-bits o w = record { offset = o; width = w }
+abbrev pub bits : String → ℕ → ℕ → Field
+bits n o w = record { name = n; offset = o; width = w }
 
 abbrev pub widthOf : Field → ℕ
 widthOf f = f .width
@@ -60,6 +62,14 @@ widthOf f = f .width
 abbrev pub fieldsOf : List Field → ℕ → List ℕ
 fieldsOf [] n = []
 fieldsOf (f ∷ fs) n = fieldOf n (f .offset) (f .width) ∷ fieldsOf fs n
+
+-- the word with the values vs, each cut to its width, in a table's fields
+abbrev pub wordOf : List Field → List ℕ → ℕ
+wordOf fs vs = pack 0 (map widthOf fs) vs
+
+-- a value for each of a table's fields, and each within its width
+abbrev pub fitsTable : List Field → List ℕ → Bool
+fitsTable fs vs = within (map widthOf fs) vs
 
 -- the fields follow one another from bit o on, with no gap and no overlap, and end with bit 31
 abbrev pub fillsWord : ℕ → List Field → Bool

@@ -1,0 +1,32 @@
+-- `formats::alu::write_op2` meets its contract: joining the placed fields packs them. Assumes nothing.
+use mathlib.Core.Path.{_≡_, refl, _∙_}
+use lib.Bits.{bitOr}
+use Rattle.bits.proofs.OfRows.{joined-word}
+use Rattle.formats.specs.Alu.{op2Table, op2Values}
+use Rattle.formats.proofs.alu.write_op2.Statement.{statement}
+use Rattle.formats.proofs.alu.write_op2.Tie as tie
+
+returns : tie.Need-returns
+unfolding op2Table
+returns c =
+    let r = c .before .before .before .before .before .before .before .before .before .before .before .before .args .r in
+    (λ i. bitOr (bitOr (bitOr (bitOr (bitOr (bitOr (bitOr (bitOr (bitOr (bitOr (bitOr ((c .before .before .before .before .before .before .before .before .before .before .before .place .ensures) i) ((c .before .before .before .before .before .before .before .before .before .before .place2 .ensures) i)) ((c .before .before .before .before .before .before .before .before .before .place3 .ensures) i)) ((c .before .before .before .before .before .before .before .before .place4 .ensures) i)) ((c .before .before .before .before .before .before .before .place5 .ensures) i)) ((c .before .before .before .before .before .before .place6 .ensures) i)) ((c .before .before .before .before .before .place7 .ensures) i)) ((c .before .before .before .before .place8 .ensures) i)) ((c .before .before .before .place9 .ensures) i)) ((c .before .before .place10 .ensures) i)) ((c .before .place11 .ensures) i)) ((c .place12 .ensures) i))
+    ∙ joined-word op2Table refl (op2Values r)
+
+pub write-op2-spec : {M : Type 1} → statement M
+write-op2-spec =
+    tie.close
+    (tie.spec
+    (λ c κs. tt)
+    (λ c κs. tt)
+    (λ c κs. tt)
+    (λ c κs. tt)
+    (λ c κs. tt)
+    (λ c κs. tt)
+    (λ c κs. tt)
+    (λ c κs. tt)
+    (λ c κs. tt)
+    (λ c κs. tt)
+    (λ c κs. tt)
+    (λ c κs. tt)
+    returns)

@@ -1,0 +1,25 @@
+-- `formats::cf_alu::read_word0` meets its contract: each field is what the extraction ensures. Assumes nothing.
+use borrow.Author.Needs.{needs}
+use Rattle.formats.proofs.cf_alu.read_word0.Statement.{statement}
+use Rattle.formats.proofs.cf_alu.read_word0.Tie as tie
+
+returns : tie.Need-returns
+returns c =
+    λ i.
+    record {
+      addr = record { 0 = c .before .before .before .field .ensures i };
+      «kcache_bank0» = c .before .before .field2 .ensures i;
+      «kcache_bank1» = c .before .field3 .ensures i;
+      «kcache_mode0» = c .field4 .ensures i;
+    }
+
+pub read-word0-spec : {M : Type 1} → statement M
+read-word0-spec =
+    tie.close
+    (tie.spec
+    (λ c κs. tt)
+    (λ c. search needs)
+    (λ c κs. tt)
+    (λ c κs. tt)
+    (λ c κs. tt)
+    returns)

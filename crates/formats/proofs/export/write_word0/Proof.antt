@@ -1,0 +1,26 @@
+-- `formats::export::write_word0` meets its contract: joining the placed fields packs them. Assumes nothing.
+use mathlib.Core.Path.{_≡_, refl, _∙_}
+use lib.Bits.{bitOr}
+use Rattle.bits.proofs.OfRows.{joined-word}
+use Rattle.formats.specs.Export.{word0Table, word0Values}
+use Rattle.formats.proofs.export.write_word0.Statement.{statement}
+use Rattle.formats.proofs.export.write_word0.Tie as tie
+
+returns : tie.Need-returns
+unfolding word0Table
+returns c =
+    let r = c .before .before .before .before .before .before .args .r in
+    (λ i. bitOr (bitOr (bitOr (bitOr (bitOr ((c .before .before .before .before .before .place .ensures) i) ((c .before .before .before .before .place2 .ensures) i)) ((c .before .before .before .place3 .ensures) i)) ((c .before .before .place4 .ensures) i)) ((c .before .place5 .ensures) i)) ((c .place6 .ensures) i))
+    ∙ joined-word word0Table refl (word0Values r)
+
+pub write-word0-spec : {M : Type 1} → statement M
+write-word0-spec =
+    tie.close
+    (tie.spec
+    (λ c κs. tt)
+    (λ c κs. tt)
+    (λ c κs. tt)
+    (λ c κs. tt)
+    (λ c κs. tt)
+    (λ c κs. tt)
+    returns)

@@ -1,0 +1,5 @@
+-- The root of what the contracts cite.
+pub mod Cf
+pub mod CfAlu
+pub mod Export
+pub mod Alu

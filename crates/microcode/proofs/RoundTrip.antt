@@ -1,0 +1,227 @@
+-- Decoding and encoding undo each other, both ways: over two words, and at any start of any buffer. Assumes nothing.
+use mathlib.Core.Path.{_≡_, refl, sym, ap, ap₂, _∙_, subst}
+use mathlib.Core.Bool.{Bool, true, false, cond, _&&_}
+use mathlib.Core.List.{List, [], _∷_}
+use Prim.Native.Nat.{ℕ, _+_, _/_, _%_, _^_, _≤_, _<_}
+use native.Mathlib.Nat.{div-eq-of-lt}
+use native.Mathlib.Omega.{arith}
+use lib.Dec.{eqb}
+use lib.ListN.{length, getD, set, length-set}
+use lib.Seq.{getD-set-same, getD-set-other, set-getD}
+use borrow.Author.Tests.{eq-eqb, ne-eqb, leb-true}
+use Rattle.units.specs.declared.Words.{Words}
+use Rattle.bits.specs.Fields.{fieldOf, wordOf, fitsTable}
+use Rattle.bits.proofs.OfRows.{both}
+use Rattle.bits.proofs.OfField.{upper-part}
+use Rattle.opcodes.specs.Numbers.{cfAluTaken, cfTaken, exportTaken}
+use Rattle.opcodes.specs.Alu.{op2Class, op3Class, isTaken}
+use Rattle.opcodes.proofs.OfTaken.{cf-alu-number, cf-number, export-number, export-not-cf, op2-number, op3-number}
+use Rattle.microcode.specs.declared.Instruction.{Instruction}
+use Rattle.microcode.specs.declared.Instruction.the-variants.{CfAlu, Cf, Export, Op2, Op3}
+use Rattle.microcode.specs.declared.Decoded.{Decoded}
+use Rattle.microcode.specs.declared.Decoded.the-variants.{Refused, Taken}
+use Rattle.microcode.specs.declared.Encoded.{Encoded}
+use Rattle.microcode.specs.declared.Encoded.the-variants as encoded
+use Rattle.microcode.specs.declared.Stream.{Stream}
+use Rattle.microcode.specs.declared.Stream.the-variants.{ControlFlow, Alu}
+use Rattle.formats.specs.declared.cf.CfWord0.{CfWord0}
+use Rattle.formats.specs.declared.cf.CfWord1.{CfWord1}
+use Rattle.formats.specs.declared.cf_alu.CfAluWord0.{CfAluWord0}
+use Rattle.formats.specs.declared.cf_alu.CfAluWord1.{CfAluWord1}
+use Rattle.formats.specs.declared.export.CfAllocExportWord0.{CfAllocExportWord0}
+use Rattle.formats.specs.declared.export.CfAllocExportWord1Swiz.{CfAllocExportWord1Swiz}
+use Rattle.formats.specs.declared.alu.AluWord0.{AluWord0}
+use Rattle.formats.specs.declared.alu.AluWord1Op2.{AluWord1Op2}
+use Rattle.formats.specs.declared.alu.AluWord1Op3.{AluWord1Op3}
+use Rattle.formats.specs.Cf as cf
+use Rattle.formats.specs.CfAlu as cfAlu
+use Rattle.formats.specs.Export as export
+use Rattle.formats.specs.Alu as alu
+use Rattle.microcode.specs.Pair.{openerPairOf, plainPairOf, cfPairOf, op2PairOf, op3PairOf, aluPairOf, pairOf, streamOf, encodable, lowOf, highOf}
+use Rattle.microcode.specs.Codec.{room, decodeOf, putAnswer, putWords, encodeAnswer, encodeWords}
+use Rattle.formats.proofs.OfFormats.{Format, word-again, read-fits, record-again, fields-again, cf-word0, cf-word1, cf-alu-word0, cf-alu-word1, export-word0, export-word1, alu-word0, alu-op2, alu-op3}
+
+by-test : {P : Type 0} (b : Bool) → (b ≡ true → P) → (b ≡ false → P) → P
+by-test true f g = f refl
+by-test false f g = g refl
+
+-- three tests that all pass, together and one by one
+split : (a b c : Bool) → a && b && c ≡ true → (a ≡ true) × (b ≡ true) × (c ≡ true)
+split a b c h =
+    let k = both (a && b) c h in
+    let j = both a b (k .0) in
+    (j .0, j .1, k .1)
+
+all-three : {a b c : Bool} → a ≡ true → b ≡ true → c ≡ true → a && b && c ≡ true
+all-three p q r = ap₂ (λ (x y : Bool). x && y) (ap₂ (λ (x y : Bool). x && y) p q) r
+
+-- ---- words, read and written
+
+-- what an instruction that was read from two words has
+pub record ReadFrom (s : Stream) (lo hi : ℕ) (i : Instruction) : Type 0 where
+  pub fits : encodable i ≡ true
+  pub stream : streamOf i ≡ s
+  pub low : lowOf i ≡ lo
+  pub high : highOf i ≡ hi
+
+never : {A : Type 0} {r : _} {i : Instruction} → Refused r ≡ Taken i → A
+never e = let z : _≡_ {A = ℕ} 0 1 = cc in absurd (omega arith)
+
+module _ (lo hi : ℕ) (hl : lo < 2 ^ 32) (hh : hi < 2 ^ 32) (i : Instruction) where
+  read-as : (s : Stream) (j : Instruction) → ReadFrom s lo hi j → Taken j ≡ Taken i → ReadFrom s lo hi i
+  read-as s j r e = let same : j ≡ i = cc in subst (ReadFrom s lo hi) same r
+
+  opener-again : openerPairOf lo hi ≡ Taken i → ReadFrom ControlFlow lo hi i
+  unfolding openerPairOf
+  opener-again e =
+      by-test (cfAluTaken (fieldOf hi 26 4))
+      (λ t. read-as ControlFlow (CfAlu (cfAlu.word0Of lo) (cfAlu.word1Of hi))
+      (record { fits = all-three (read-fits cf-alu-word0 lo) (read-fits cf-alu-word1 hi) t; stream = refl; low = word-again cf-alu-word0 lo hl; high = word-again cf-alu-word1 hi hh })
+      (rw t at e))
+      (λ t. never (rw t at e))
+
+  plain-again : plainPairOf lo hi ≡ Taken i → ReadFrom ControlFlow lo hi i
+  unfolding plainPairOf
+  plain-again e =
+      by-test (cfTaken (fieldOf hi 23 7))
+      (λ t. read-as ControlFlow (Cf (cf.word0Of lo) (cf.word1Of hi))
+      (record { fits = all-three (read-fits cf-word0 lo) (read-fits cf-word1 hi) t; stream = refl; low = word-again cf-word0 lo hl; high = word-again cf-word1 hi hh })
+      (rw t at e))
+      (λ t. by-test (exportTaken (fieldOf hi 23 7))
+      (λ u. read-as ControlFlow (Export (export.word0Of lo) (export.word1Of hi))
+      (record { fits = all-three (read-fits export-word0 lo) (read-fits export-word1 hi) u; stream = refl; low = word-again export-word0 lo hl; high = word-again export-word1 hi hh })
+      (rw (t, u) at e))
+      (λ u. never (rw (t, u) at e)))
+
+  op2-again : op2PairOf lo hi ≡ Taken i → ReadFrom Alu lo hi i
+  unfolding op2PairOf
+  op2-again e =
+      by-test (isTaken (op2Class (fieldOf hi 7 11)))
+      (λ t. read-as Alu (Op2 (alu.word0Of lo) (alu.op2Of hi))
+      (record { fits = all-three (read-fits alu-word0 lo) (read-fits alu-op2 hi) t; stream = refl; low = word-again alu-word0 lo hl; high = word-again alu-op2 hi hh })
+      (rw t at e))
+      (λ t. never (rw t at e))
+
+  op3-again : op3PairOf lo hi ≡ Taken i → ReadFrom Alu lo hi i
+  unfolding op3PairOf
+  op3-again e =
+      by-test (isTaken (op3Class (fieldOf hi 13 5)))
+      (λ t. read-as Alu (Op3 (alu.word0Of lo) (alu.op3Of hi))
+      (record { fits = all-three (read-fits alu-word0 lo) (read-fits alu-op3 hi) t; stream = refl; low = word-again alu-word0 lo hl; high = word-again alu-op3 hi hh })
+      (rw t at e))
+      (λ t. never (rw t at e))
+
+  -- every pair of words of a taken form gives the same words back
+  pub pair-again : (s : Stream) → pairOf s lo hi ≡ Taken i → ReadFrom s lo hi i
+  unfolding cfPairOf aluPairOf
+  pair-again ControlFlow e =
+      by-test (eqb (fieldOf hi 29 1) 1) (λ t. opener-again (rw t at e)) (λ t. plain-again (rw t at e))
+  pair-again Alu e =
+      by-test (eqb (fieldOf hi 15 3) 0) (λ t. op2-again (rw t at e)) (λ t. op3-again (rw t at e))
+
+-- ---- records, written and read
+
+module _ (a : CfAluWord0) (b : CfAluWord1) (p : fitsTable cfAlu.word0Table (cfAlu.word0Values a) ≡ true) (q : fitsTable cfAlu.word1Table (cfAlu.word1Values b) ≡ true) (t : cfAluTaken (b .«cf_inst») ≡ true) where
+  opener-back : cfPairOf (lowOf (CfAlu a b)) (highOf (CfAlu a b)) ≡ Taken (CfAlu a b)
+  unfolding cfPairOf openerPairOf
+  opener-back =
+      let lo = lowOf (CfAlu a b) in
+      let hi = highOf (CfAlu a b) in
+      let r0 = record-again cf-alu-word0 a p in
+      let r1 = record-again cf-alu-word1 b q in
+      let n : fieldOf hi 26 4 ≡ b .«cf_inst» = ap (λ (w : CfAluWord1). w .«cf_inst») r1 in
+      let top : fieldOf hi 29 1 ≡ 1 = upper-part hi 26 3 1 ∙ ap (λ (k : ℕ). k / 8) n ∙ cf-alu-number (b .«cf_inst») t in
+      rw (eq-eqb (fieldOf hi 29 1) 1 top, ap cfAluTaken n ∙ t) (λ i. Taken (CfAlu (r0 i) (r1 i)))
+
+-- bit 29 is clear under a number below 64
+not-opener : (hi n : ℕ) → fieldOf hi 23 7 ≡ n → n < 64 → eqb (fieldOf hi 29 1) 1 ≡ false
+not-opener hi n e l =
+    let top : fieldOf hi 29 1 ≡ 0 = upper-part hi 23 6 1 ∙ ap (λ (k : ℕ). k / 64) e ∙ div-eq-of-lt l in
+    ne-eqb (fieldOf hi 29 1) 1 (λ h. omega arith)
+
+module _ (a : CfWord0) (b : CfWord1) (p : fitsTable cf.word0Table (cf.word0Values a) ≡ true) (q : fitsTable cf.word1Table (cf.word1Values b) ≡ true) (t : cfTaken (b .«cf_inst») ≡ true) where
+  cf-back : cfPairOf (lowOf (Cf a b)) (highOf (Cf a b)) ≡ Taken (Cf a b)
+  unfolding cfPairOf plainPairOf
+  cf-back =
+      let hi = highOf (Cf a b) in
+      let r0 = record-again cf-word0 a p in
+      let r1 = record-again cf-word1 b q in
+      let n : fieldOf hi 23 7 ≡ b .«cf_inst» = ap (λ (w : CfWord1). w .«cf_inst») r1 in
+      rw (not-opener hi (b .«cf_inst») n (cf-number (b .«cf_inst») t), ap cfTaken n ∙ t) (λ i. Taken (Cf (r0 i) (r1 i)))
+
+module _ (a : CfAllocExportWord0) (b : CfAllocExportWord1Swiz) (p : fitsTable export.word0Table (export.word0Values a) ≡ true) (q : fitsTable export.word1Table (export.word1Values b) ≡ true) (t : exportTaken (b .«cf_inst») ≡ true) where
+  export-back : cfPairOf (lowOf (Export a b)) (highOf (Export a b)) ≡ Taken (Export a b)
+  unfolding cfPairOf plainPairOf
+  export-back =
+      let hi = highOf (Export a b) in
+      let r0 = record-again export-word0 a p in
+      let r1 = record-again export-word1 b q in
+      let n : fieldOf hi 23 7 ≡ b .«cf_inst» = ap (λ (w : CfAllocExportWord1Swiz). w .«cf_inst») r1 in
+      rw (not-opener hi (b .«cf_inst») n (export-number (b .«cf_inst») t), ap cfTaken n ∙ export-not-cf (b .«cf_inst») t, ap exportTaken n ∙ t) (λ i. Taken (Export (r0 i) (r1 i)))
+
+module _ (a : AluWord0) (p : fitsTable alu.word0Table (alu.word0Values a) ≡ true) where
+  op2-back : (b : AluWord1Op2) → fitsTable alu.op2Table (alu.op2Values b) ≡ true → isTaken (op2Class (b .«alu_inst»)) ≡ true → aluPairOf (lowOf (Op2 a b)) (highOf (Op2 a b)) ≡ Taken (Op2 a b)
+  unfolding aluPairOf op2PairOf
+  op2-back b q t =
+      let hi = highOf (Op2 a b) in
+      let r0 = record-again alu-word0 a p in
+      let r1 = record-again alu-op2 b q in
+      let n : fieldOf hi 7 11 ≡ b .«alu_inst» = ap (λ (w : AluWord1Op2). w .«alu_inst») r1 in
+      let top : fieldOf hi 15 3 ≡ 0 = upper-part hi 7 8 3 ∙ ap (λ (k : ℕ). k / 256) n ∙ div-eq-of-lt (op2-number (b .«alu_inst») t) in
+      rw (eq-eqb (fieldOf hi 15 3) 0 top, ap (λ (k : ℕ). isTaken (op2Class k)) n ∙ t) (λ i. Taken (Op2 (r0 i) (r1 i)))
+
+  op3-back : (b : AluWord1Op3) → fitsTable alu.op3Table (alu.op3Values b) ≡ true → isTaken (op3Class (b .«alu_inst»)) ≡ true → aluPairOf (lowOf (Op3 a b)) (highOf (Op3 a b)) ≡ Taken (Op3 a b)
+  unfolding aluPairOf op3PairOf
+  op3-back b q t =
+      let hi = highOf (Op3 a b) in
+      let r0 = record-again alu-word0 a p in
+      let r1 = record-again alu-op3 b q in
+      let n : fieldOf hi 13 5 ≡ b .«alu_inst» = ap (λ (w : AluWord1Op3). w .«alu_inst») r1 in
+      let top : fieldOf hi 15 3 ≡ b .«alu_inst» / 4 = upper-part hi 13 2 3 ∙ ap (λ (k : ℕ). k / 4) n in
+      let l : 4 ≤ b .«alu_inst» = op3-number (b .«alu_inst») t in
+      rw (ne-eqb (fieldOf hi 15 3) 0 (λ h. four-up (b .«alu_inst») l (sym top ∙ h)), ap (λ (k : ℕ). isTaken (op3Class k)) n ∙ t) (λ i. Taken (Op3 (r0 i) (r1 i)))
+    where
+      four-up : (n : ℕ) → 4 ≤ n → n / 4 ≡ 0 → ⊥
+      four-up n l e = omega arith
+
+-- every record of a taken form that fits its fields is read back from its words
+pub record-back : (i : Instruction) → encodable i ≡ true → pairOf (streamOf i) (lowOf i) (highOf i) ≡ Taken i
+record-back (CfAlu a b) h = let k = split _ _ _ h in opener-back a b (k .0) (k .1) (k .2)
+record-back (Cf a b) h = let k = split _ _ _ h in cf-back a b (k .0) (k .1) (k .2)
+record-back (Export a b) h = let k = split _ _ _ h in export-back a b (k .0) (k .1) (k .2)
+record-back (Op2 a b) h = let k = split _ _ _ h in op2-back a (k .0) b (k .1) (k .2)
+record-back (Op3 a b) h = let k = split _ _ _ h in op3-back a (k .0) b (k .1) (k .2)
+
+-- ---- at a start of a buffer
+
+-- a refusal's buffer is short, so a record's is not
+room-of : (s : Stream) (l : List ℕ) (start : Words) (i : Instruction) → decodeOf s l start ≡ Taken i → (room l (start .0) ≡ true) × (pairOf s (getD l (start .0) 0) (getD l (start .0 + 1) 0) ≡ Taken i)
+unfolding decodeOf
+room-of s l start i e = by-test (room l (start .0)) (λ t. (t, rw t at e)) (λ t. never (rw t at e))
+
+module _ (i : Instruction) (l : List ℕ) (start : Words) where
+  -- words that were read at a start and are written there again: done, and the whole buffer is as it was
+  pub words-again : (s : Stream) → ((k : ℕ) → getD l k 0 < 2 ^ 32) → decodeOf s l start ≡ Taken i → (encodeAnswer i l start ≡ encoded.Done) × (encodeWords i l start ≡ l)
+  unfolding encodeAnswer encodeWords putAnswer putWords
+  words-again s small e =
+      let at = start .0 in
+      let d = room-of s l start i e in
+      let r = pair-again (getD l at 0) (getD l (at + 1) 0) (small at) (small (at + 1)) i s (d .1) in (
+        rw (r .fits, d .0),
+        rw (r .fits, d .0)
+            ((λ j. set (set l at (r .low j)) (at + 1) (r .high j))
+            ∙ ap (λ (m : List ℕ). set m (at + 1) (getD l (at + 1) 0)) (set-getD l at 0)
+            ∙ set-getD l (at + 1) 0),
+      )
+
+  -- a record that was written where there is room is read there again
+  pub record-again-at : encodable i ≡ true → room l (start .0) ≡ true → (encodeAnswer i l start ≡ encoded.Done) × (decodeOf (streamOf i) (encodeWords i l start) start ≡ Taken i)
+  unfolding encodeAnswer encodeWords putAnswer putWords decodeOf room
+  record-again-at h t =
+      let at = start .0 in
+      let fit : at + 2 ≤ length l = leb-true (at + 2) (length l) t in
+      let m = set (set l at (lowOf i)) (at + 1) (highOf i) in
+      let long : length m ≡ length l = length-set (set l at (lowOf i)) (at + 1) (highOf i) ∙ length-set l at (lowOf i) in
+      let low : getD m at 0 ≡ lowOf i = getD-set-other (set l at (lowOf i)) (at + 1) at (highOf i) 0 (λ e. omega arith) ∙ getD-set-same l at (lowOf i) 0 (omega arith) in
+      let high : getD m (at + 1) 0 ≡ highOf i = getD-set-same (set l at (lowOf i)) (at + 1) (highOf i) 0 (omega (arith, length-set l at (lowOf i))) in
+      (rw (h, t), rw (h, t, long, t, low, high) (record-back i h))

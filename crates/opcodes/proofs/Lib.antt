@@ -1,0 +1,4 @@
+-- The laws that proofs cite, here and in the crates above.
+pub mod OfRuns
+pub mod OfTaken
+pub mod Examples

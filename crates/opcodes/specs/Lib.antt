@@ -1,0 +1,4 @@
+-- The root of what the contracts cite.
+pub mod Table
+pub mod Numbers
+pub mod Alu
