@@ -1,0 +1,2 @@
+-- The root of what definitions cite.
+pub mod Ascii

@@ -1,0 +1,10 @@
+-- The laws that proofs cite, here and in the crates above.
+pub mod OfTests
+pub mod OfLines
+pub mod OfKeys
+pub mod OfNumbers
+pub mod OfRows
+pub mod OfCard
+pub mod OfDecimals
+pub mod OfWritten
+pub mod Examples

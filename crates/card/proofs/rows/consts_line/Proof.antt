@@ -1,0 +1,10 @@
+-- `card::rows::consts_line` meets its contract: a row of the table, as `number_line` reads it. Assumes nothing.
+use borrow.Author.Needs.{needs}
+use Rattle.card.proofs.rows.consts_line.Statement.{statement}
+use Rattle.card.proofs.rows.consts_line.Tie as tie
+
+returns : tie.Need-returns
+returns c = c .number-line .ensures
+
+pub consts-line-spec : {M : Type 1} → statement M
+consts-line-spec = tie.close (tie.spec (λ c. search needs) (λ c κs. search needs) returns)

@@ -1,0 +1,78 @@
+-- Worked examples, by computation: whole reports, and numbers in decimal.
+use mathlib.Core.Path.{_≡_, refl}
+use mathlib.Core.List.{[], _∷_}
+use Prim.Native.Nat.{_-_, _^_}
+use Rattle.units.specs.Units.{quadwords, slots}
+use Rattle.checks.specs.declared.Rule.the-variants.{CardLine, NotGranted}
+use Rattle.checks.specs.declared.Place.the-variants.{Line, Quadword}
+use Rattle.checks.specs.declared.Verdict.{Verdict}
+use Rattle.checks.specs.declared.Verdict.the-variants.{Accepted, Refused}
+use Rattle.report.specs.declared.ReportBuild.the-variants.{Production, Debug}
+use Rattle.report.specs.declared.Written.the-variants.{Length, TooSmall}
+use Rattle.report.specs.Text.{ascii, decimal, decimalWithin}
+use Rattle.report.specs.Report.{reportLines, reportBytes}
+use Rattle.report.specs.Buffer.{writtenOf, bufferAfter}
+
+-- a text's bytes
+bytes-of-a-line : ascii "slot=0\n" ≡ 115 ∷ 108 ∷ 111 ∷ 116 ∷ 61 ∷ 48 ∷ 10 ∷ []
+bytes-of-a-line = refl
+
+-- ---- numbers
+
+nought : decimal 0 ≡ ascii "0"
+unfolding decimal decimalWithin
+nought = refl
+
+one-digit : decimal 9 ≡ ascii "9"
+unfolding decimal decimalWithin
+one-digit = refl
+
+two-digits : decimal 10 ≡ ascii "10"
+unfolding decimal decimalWithin
+two-digits = refl
+
+zeros-inside : decimal 4005 ≡ ascii "4005"
+unfolding decimal decimalWithin
+zeros-inside = refl
+
+largest-of-64-bits : decimal (2 ^ 64 - 1) ≡ ascii "18446744073709551615"
+unfolding decimal decimalWithin
+largest-of-64-bits = refl
+
+-- ---- reports
+
+-- document 01's, for the accepted copy pack
+accepted-production : reportBytes Production Accepted ≡ ascii "build=production\nverdict=0\nplace=0\nslot=0\nrelease=yes\n"
+unfolding reportBytes reportLines decimal decimalWithin
+accepted-production = refl
+
+accepted-debug : reportBytes Debug Accepted ≡ ascii "build=debug\nverdict=0\nplace=0\nslot=0\nrelease=no\n"
+unfolding reportBytes reportLines decimal decimalWithin
+accepted-debug = refl
+
+-- 15 at quadword 40, slot 3
+abbrev not-granted : Verdict
+not-granted = Refused NotGranted (Quadword (quadwords 40)) (slots 3)
+
+refused-debug : reportBytes Debug not-granted ≡ ascii "build=debug\nverdict=15\nplace=40\nslot=3\nrelease=no\n"
+unfolding reportBytes reportLines decimal decimalWithin
+refused-debug = refl
+
+-- line 7 of the card is at fault: the build is not shown, though line 2 was good
+card-line : reportBytes Production (Refused CardLine (Line 7) (slots 0)) ≡ ascii "build=unknown\nverdict=1\nplace=7\nslot=0\nrelease=no\n"
+unfolding reportBytes reportLines decimal decimalWithin
+card-line = refl
+
+-- ---- buffers: seven bytes of report, with room for one more, just enough, and one too few
+
+more-than-enough : (writtenOf (ascii "slot=0\n") (ascii "12345678") ≡ Length 7) × (bufferAfter (ascii "slot=0\n") (ascii "12345678") ≡ ascii "slot=0\n8")
+unfolding writtenOf bufferAfter
+more-than-enough = (refl, refl)
+
+just-enough : (writtenOf (ascii "slot=0\n") (ascii "1234567") ≡ Length 7) × (bufferAfter (ascii "slot=0\n") (ascii "1234567") ≡ ascii "slot=0\n")
+unfolding writtenOf bufferAfter
+just-enough = (refl, refl)
+
+one-too-few : (writtenOf (ascii "slot=0\n") (ascii "123456") ≡ TooSmall) × (bufferAfter (ascii "slot=0\n") (ascii "123456") ≡ ascii "123456")
+unfolding writtenOf bufferAfter
+one-too-few = (refl, refl)

@@ -1,0 +1,66 @@
+-- The report: document 01, "What the judge reads". Five lines, each ended by one line feed.
+use Prim.Native.Nat.{ℕ}
+use Prim.Native.Char.{code}
+use Prim.Native.String.{String}
+use mathlib.Core.Bool.{Bool, true, false, cond}
+use mathlib.Core.List.{List, [], _∷_, _++_}
+use lib.Dec.{eqb}
+use Rattle.checks.specs.declared.Verdict.{Verdict}
+use Rattle.checks.specs.Verdict.{verdictNumber, verdictPlace, verdictSlot}
+use Rattle.report.specs.declared.ReportBuild.{ReportBuild}
+use Rattle.report.specs.declared.ReportBuild.the-variants.{Unknown, Production, Debug}
+use Rattle.report.specs.Text.{ascii, decimal}
+
+-- a line key=value
+abbrev pub line : String → List ℕ → List ℕ
+line key value = ascii key ++ (ascii "=" ++ (value ++ ascii "\n"))
+
+-- with verdict 1 the build line reads unknown, whatever build was known
+abbrev pub shownBuild : ReportBuild → Verdict → ReportBuild
+shownBuild build verdict = cond (eqb (verdictNumber verdict) 1) Unknown build
+
+abbrev pub buildText : ReportBuild → List ℕ
+buildText Unknown = ascii "unknown"
+buildText Production = ascii "production"
+buildText Debug = ascii "debug"
+
+-- release is yes exactly if verdict is 0 and build is production, else no
+abbrev pub released : ReportBuild → Verdict → Bool
+released Unknown verdict = false
+released Production verdict = eqb (verdictNumber verdict) 0
+released Debug verdict = false
+
+abbrev pub yesOrNo : Bool → List ℕ
+yesOrNo true = ascii "yes"
+yesOrNo false = ascii "no"
+
+-- the five lines in their order
+unfoldable pub reportLines : ReportBuild → Verdict → List (List ℕ)
+reportLines build verdict =
+    line "build" (buildText (shownBuild build verdict))
+    ∷ line "verdict" (decimal (verdictNumber verdict))
+    ∷ line "place" (decimal (verdictPlace verdict))
+    ∷ line "slot" (decimal (verdictSlot verdict))
+    ∷ line "release" (yesOrNo (released build verdict))
+    ∷ []
+
+-- lines one behind the other
+abbrev pub joined : List (List ℕ) → List ℕ
+joined [] = []
+joined (l ∷ ls) = l ++ joined ls
+
+-- the report's bytes
+unfoldable pub reportBytes : ReportBuild → Verdict → List ℕ
+reportBytes build verdict = joined (reportLines build verdict)
+
+-- ---- what the laws of proofs/OfReport.antt say of the bytes
+
+-- a byte before the first of some lines
+abbrev pub beforeFirst : ℕ → List (List ℕ) → List (List ℕ)
+beforeFirst b [] = (b ∷ []) ∷ []
+beforeFirst b (l ∷ ls) = (b ∷ l) ∷ ls
+
+-- bytes taken apart into lines, each with the line feed that ends it
+unfoldable pub linesOf : List ℕ → List (List ℕ)
+linesOf [] = []
+linesOf (b ∷ bs) = cond (eqb b (code "\n")) ((b ∷ []) ∷ linesOf bs) (beforeFirst b (linesOf bs))
