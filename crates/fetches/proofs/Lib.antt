@@ -1,0 +1,4 @@
+-- The laws that proofs cite, here and in the crates above.
+pub mod OfFetches
+pub mod OfClause
+pub mod Examples

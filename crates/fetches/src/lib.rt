@@ -1,0 +1,139 @@
+// Rules 8 and 9 on a fetch clause: document 01, the paragraph on fetches in "Control-flow words".
+use bits::field;
+use checks::Place;
+use checks::Rule;
+use checks::Verdict;
+use grants::Limits;
+use units::Quadwords;
+use units::Slots;
+use units::Words;
+ghost use mathlib.Core.Path.{_≡_};
+ghost use lib.ListN.{length};
+ghost use Rattle.checks.specs.Checks.{firstBroken};
+ghost use Rattle.grants.specs.Grants.{allGranted};
+ghost use Rattle.fetches.specs.Fetches.{isSemantic, destination, source, named, badFetch, faultOf, insideBuffer, clauseChecks};
+
+// Which clause a fetch stands in: VTX and VTX_TC clauses hold vertex fetches, TEX clauses texture fetches.
+pub enum FetchKind {
+    Vertex,
+    Texture,
+}
+
+// What one fetch breaks.
+pub enum Fault {
+    Clean,
+    Broken(Rule),
+}
+
+// A clause of `fetches` fetches from `start` on, whose opener stands at `place`: the first broken check of rules 8 and 9.
+pub fn fetch_clause(
+    words: &[u32],
+    place: Quadwords,
+    start: Quadwords,
+    fetches: Slots,
+    kind: FetchKind,
+    limits: Limits,
+) -> Verdict
+    ensures { λ r. ⌜ r ≡ firstBroken (clauseChecks kind limits (now (words .entry)) place start fetches) ⌝ }
+{
+    let n = fetches.0;
+    if !is_inside(words.len(), start, fetches) {
+        return Verdict::Accepted;
+    }
+    let first = units::low_word(start).0;
+    let mut i = 0;
+    while i < n {
+        let at = first + 4 * i;
+        let fault = fetch_fault(kind, limits, words[at], words[at + 1], words[at + 3]);
+        match fault {
+            Fault::Broken(rule) => {
+                return Verdict::Refused {
+                    rule,
+                    place: Place::Quadword(place),
+                    slot: units::fetch_slot(Slots(i)),
+                };
+            }
+            Fault::Clean => {}
+        }
+        i += 1;
+    }
+    Verdict::Accepted
+}
+
+// Whether the clause lies in a buffer of so many words. Where it does not, rule 6 has refused it.
+fn is_inside(length: usize, start: Quadwords, fetches: Slots) -> bool
+    ensures { λ r. ⌜ r ≡ insideBuffer length start fetches ⌝ }
+{
+    let end = units::range_end(start, units::fetches_length(fetches));
+    units::is_at_most(end, units::whole_quadwords(Words(length)))
+}
+
+// Rules 8 and 9 on one fetch, by its first, second and fourth word.
+pub fn fetch_fault(kind: FetchKind, limits: Limits, word0: u32, word1: u32, word3: u32) -> Fault
+    ensures { λ r. ⌜ r ≡ faultOf kind limits word0 word1 word3 ⌝ }
+{
+    let number = field(word0, 0, 5);
+    if is_bad(kind, number, word3) {
+        return Fault::Broken(Rule::FetchNumber);
+    }
+    if !registers_granted(kind, number, limits, word0, word1) {
+        return Fault::Broken(Rule::FetchRegister);
+    }
+    Fault::Clean
+}
+
+// Rule 8: the number is not taken, or the fourth word is not 0.
+fn is_bad(kind: FetchKind, number: u32, word3: u32) -> bool
+    ensures { λ r. ⌜ r ≡ badFetch kind number word3 ⌝ }
+{
+    if word3 != 0 {
+        return true;
+    }
+    match kind {
+        FetchKind::Vertex => !opcodes::vertex_fetch_taken(number),
+        FetchKind::Texture => !opcodes::texture_fetch_taken(number),
+    }
+}
+
+// A semantic fetch looks its destination up, and names none.
+fn is_semantic(kind: FetchKind, number: u32) -> bool
+    ensures { λ r. ⌜ r ≡ isSemantic kind number ⌝ }
+{
+    match kind {
+        FetchKind::Vertex => number == 1,
+        FetchKind::Texture => false,
+    }
+}
+
+// Rule 9 on the destination.
+fn destination_granted(kind: FetchKind, number: u32, limits: Limits, word1: u32) -> bool
+    ensures { λ r. ⌜ r ≡ allGranted limits (destination kind number word1) ⌝ }
+{
+    if is_semantic(kind, number) {
+        return true;
+    }
+    if field(word1, 7, 1) != 0 {
+        return true;
+    }
+    grants::register_granted(limits, field(word1, 0, 7))
+}
+
+// Rule 9 on the source.
+fn source_granted(limits: Limits, word0: u32) -> bool
+    ensures { λ r. ⌜ r ≡ allGranted limits (source word0) ⌝ }
+{
+    if field(word0, 23, 1) != 0 {
+        return true;
+    }
+    grants::register_granted(limits, field(word0, 16, 7))
+}
+
+// Rule 9: destination, then source.
+fn registers_granted(kind: FetchKind, number: u32, limits: Limits, word0: u32, word1: u32) -> bool
+    ensures { λ r. ⌜ r ≡ allGranted limits (named kind number word0 word1) ⌝ }
+{
+    if !destination_granted(kind, number, limits, word1) {
+        return false;
+    }
+    source_granted(limits, word0)
+}
