@@ -2,8 +2,7 @@
 use mathlib.Core.Path.{_≡_, refl}
 use mathlib.Core.Bool.{true, false}
 use mathlib.Core.List.{List, [], _∷_, map}
-use Prim.Native.Nat.{ℕ}
-use Rattle.bits.specs.Fields.{fieldOf, placeOf, withField, unpack, pack, within, Field, bits, widthOf, fieldsOf, fillsWord}
+use Rattle.bits.specs.Fields.{fieldOf, placeOf, withField, pack, within, Field, bits, widthOf, fieldsOf, fillsWord}
 
 -- its high word as document 01 lays it out: mode 1, two line addresses, COUNT, ALT_CONST, number, WHOLE_QUAD_MODE, BARRIER
 openerHigh : List Field

@@ -1,5 +1,5 @@
 -- One field of a word replaced: the field reads as what was put there, every other field keeps its value. Assumes nothing.
-use mathlib.Core.Path.{_≡_, refl, sym, ap, ap₂, _∙_, subst}
+use mathlib.Core.Path.{_≡_, sym, ap, _∙_, subst}
 use mathlib.Core.Logic.{_⊎_, ⊎-elim}
 use Prim.Native.Nat.{ℕ, _+_, _-_, _*_, _/_, _%_, _^_, _≤_, _<_}
 use native.Mathlib.Nat.{add-mul, mul-assoc, mul-comm, add-assoc, add-comm, mod-lt, mod-mod, mod-eq-of-lt, sub-add-cancel}

@@ -3,7 +3,6 @@ use mathlib.Core.Path.{_≡_, refl}
 use mathlib.Core.List.{List, [], _∷_, _++_}
 use Prim.Native.Nat.{ℕ}
 use Rattle.units.specs.Units.{quadwords, slots}
-use Rattle.checks.specs.declared.Verdict.{Verdict}
 use Rattle.checks.specs.Verdict.{verdictNumber, verdictPlace, verdictSlot}
 use Rattle.checks.specs.Checks.{firstBroken, below}
 use Rattle.opcodes.specs.Numbers.{vertexFetchTaken, textureFetchTaken, vertexFetches, textureFetches}

@@ -1,7 +1,7 @@
 -- A fetch clause: whether it lies in the buffer, fetch by fetch, and what an accepted one grants. Assumes nothing.
 use mathlib.Core.Path.{_≡_, refl, sym, ap, _∙_}
 use mathlib.Core.Bool.{Bool, true, false, cond, not}
-use mathlib.Core.List.{List, [], _∷_, List·Memᴰ}
+use mathlib.Core.List.{List, List·Memᴰ}
 use Prim.Native.Nat.{ℕ, _+_, _*_, _/_, _^_, _<_, _≤_}
 use native.Mathlib.Omega.{arith}
 use lib.Dec.{leb}
@@ -18,8 +18,8 @@ use Rattle.checks.specs.declared.Rule.the-variants.{FetchNumber, FetchRegister}
 use Rattle.checks.specs.declared.Place.the-variants.{Quadword}
 use Rattle.checks.specs.declared.Verdict.{Verdict}
 use Rattle.checks.specs.declared.Verdict.the-variants.{Accepted, Refused}
-use Rattle.checks.specs.Checks.{Check, firstBroken, below}
-use Rattle.checks.proofs.OfChecks.{by-broken, hit, miss, first-clean, rest-clean, below-each}
+use Rattle.checks.specs.Checks.{firstBroken, below}
+use Rattle.checks.proofs.OfChecks.{first-clean, rest-clean, below-each}
 use Rattle.grants.specs.declared.Limits.{Limits}
 use Rattle.grants.specs.Grants.{Name, granted, allGranted}
 use Rattle.grants.proofs.OfGrants.{each-granted}

@@ -1,21 +1,16 @@
 -- Rules 8 and 9 on one fetch, by what the code tests. Assumes nothing.
-use mathlib.Core.Path.{_≡_, refl, sym, ap, _∙_}
-use mathlib.Core.Bool.{Bool, true, false, cond, not, _&&_, _||_, and-true}
-use mathlib.Core.List.{List, [], _∷_, _++_}
+use mathlib.Core.Path.{_≡_, sym, ap, _∙_}
+use mathlib.Core.Bool.{Bool, true, false, not, and-true}
 use Prim.Native.Nat.{ℕ}
-use lib.Dec.{eqb}
 use borrow.Author.Tests.{eq-eqb, ne-eqb, not-true, not-false}
 use Rattle.bits.specs.Fields.{fieldOf}
 use Rattle.checks.specs.declared.Rule.the-variants.{FetchNumber, FetchRegister}
-use Rattle.opcodes.specs.Numbers.{vertexFetchTaken, textureFetchTaken}
 use Rattle.grants.specs.declared.Limits.{Limits}
 use Rattle.grants.specs.Grants.{register, granted, allGranted}
 use Rattle.grants.proofs.OfGrants.{joined-refused, joined-passed}
 use Rattle.fetches.specs.declared.FetchKind.{FetchKind}
-use Rattle.fetches.specs.declared.FetchKind.the-variants.{Vertex, Texture}
-use Rattle.fetches.specs.declared.Fault.{Fault}
 use Rattle.fetches.specs.declared.Fault.the-variants.{Clean, Broken}
-use Rattle.fetches.specs.Fetches.{isTaken, isSemantic, badFetch, destination, source, named, badRegister, faultOf}
+use Rattle.fetches.specs.Fetches.{isTaken, isSemantic, badFetch, destination, source, named, faultOf}
 
 -- the same of a kind that was told
 pub semantic-told : (k told : FetchKind) (n : ℕ) → k ≡ told → isSemantic told n ≡ isSemantic k n

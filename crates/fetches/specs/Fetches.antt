@@ -1,7 +1,7 @@
 -- Rules 8 and 9 on a fetch clause: document 01, the paragraph on fetches in "Control-flow words"; the fields are those of document
 -- 002, sections 10.3 and 10.4, which both formats have at the same bits.
 use Prim.Native.Nat.{ℕ, _+_, _*_}
-use mathlib.Core.Bool.{Bool, true, false, cond, not, _&&_, _||_}
+use mathlib.Core.Bool.{Bool, false, cond, not, _||_}
 use mathlib.Core.List.{List, [], _∷_, _++_}
 use lib.Dec.{eqb, leb}
 use lib.ListN.{length, getD}
@@ -9,7 +9,6 @@ use Rattle.units.specs.declared.Quadwords.{Quadwords}
 use Rattle.units.specs.declared.Slots.{Slots}
 use Rattle.units.specs.Units.{slots, fetchSlot}
 use Rattle.bits.specs.Fields.{fieldOf}
-use Rattle.checks.specs.declared.Rule.{Rule}
 use Rattle.checks.specs.declared.Rule.the-variants.{FetchNumber, FetchRegister}
 use Rattle.checks.specs.declared.Place.the-variants.{Quadword}
 use Rattle.checks.specs.Checks.{Check, check, below}

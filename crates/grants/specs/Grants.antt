@@ -1,6 +1,6 @@
 -- Registers and constants that an instruction names directly, and which of them are granted: document 01, rules 7, 9 and 15.
 use Prim.Native.Nat.{ℕ, _-_}
-use mathlib.Core.Bool.{Bool, true, false, cond, _&&_, _||_}
+use mathlib.Core.Bool.{Bool, true, cond, _&&_, _||_}
 use mathlib.Core.List.{List, [], _∷_}
 use lib.Dec.{eqb, ltb, leb}
 use Rattle.grants.specs.declared.Limits.{Limits}

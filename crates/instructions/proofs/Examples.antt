@@ -1,8 +1,7 @@
 -- Worked instructions, by computation. The first two are those of document 01's copy and branch packs.
 use mathlib.Core.Path.{_≡_, refl}
 use mathlib.Core.Bool.{true, false}
-use mathlib.Core.List.{List, [], _∷_}
-use Prim.Native.Nat.{ℕ}
+use mathlib.Core.List.{[], _∷_}
 use Rattle.opcodes.specs.Alu.{op2, op3, op2Class, op3Class}
 use Rattle.grants.specs.Grants.{aluRegister, set0, set1, constant}
 use Rattle.instructions.specs.Instruction.{isOp3, classOf, badNumber, isRelative, sourceLiterals, literals, badSource, badField, hasRelative, isWritten, destinationNames, namesOf, named}

@@ -3,7 +3,7 @@
 use Prim.Native.Nat.{ℕ, _+_, _/_, max}
 use mathlib.Core.Bool.{Bool, true, false, cond, not, _&&_, _||_}
 use mathlib.Core.List.{List, [], _∷_, _++_}
-use lib.Dec.{eqb, ltb, leb}
+use lib.Dec.{eqb, ltb}
 use Rattle.bits.specs.Fields.{fieldOf}
 use Rattle.opcodes.specs.declared.alu.Class.{Class}
 use Rattle.opcodes.specs.Alu.{op2Class, op3Class, isTaken}

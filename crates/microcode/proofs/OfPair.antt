@@ -1,8 +1,7 @@
 -- The cases of a pair, by what the code tests on its way to each answer. Assumes nothing.
 use Prim.Native.Nat.{ℕ}
-use mathlib.Core.Path.{_≡_, refl, sym, ap, _∙_}
-use mathlib.Core.Bool.{Bool, true, false, cond}
-use lib.Dec.{eqb}
+use mathlib.Core.Path.{_≡_, sym, ap, _∙_}
+use mathlib.Core.Bool.{Bool, true, false}
 use borrow.Author.Tests.{eq-eqb, ne-eqb}
 use Rattle.bits.specs.Fields.{fieldOf}
 use Rattle.checks.specs.declared.Rule.the-variants.{CfNumber, AluNumber}

@@ -1,8 +1,8 @@
 -- Decoding and encoding undo each other, both ways: over two words, and at any start of any buffer. Assumes nothing.
 use mathlib.Core.Path.{_≡_, refl, sym, ap, ap₂, _∙_, subst}
-use mathlib.Core.Bool.{Bool, true, false, cond, _&&_}
-use mathlib.Core.List.{List, [], _∷_}
-use Prim.Native.Nat.{ℕ, _+_, _/_, _%_, _^_, _≤_, _<_}
+use mathlib.Core.Bool.{Bool, true, false, _&&_}
+use mathlib.Core.List.{List}
+use Prim.Native.Nat.{ℕ, _+_, _/_, _^_, _≤_, _<_}
 use native.Mathlib.Nat.{div-eq-of-lt}
 use native.Mathlib.Omega.{arith}
 use lib.Dec.{eqb}
@@ -10,7 +10,7 @@ use lib.ListN.{length, getD, set, length-set}
 use lib.Seq.{getD-set-same, getD-set-other, set-getD}
 use borrow.Author.Tests.{eq-eqb, ne-eqb, leb-true}
 use Rattle.units.specs.declared.Words.{Words}
-use Rattle.bits.specs.Fields.{fieldOf, wordOf, fitsTable}
+use Rattle.bits.specs.Fields.{fieldOf, fitsTable}
 use Rattle.bits.proofs.OfRows.{both}
 use Rattle.bits.proofs.OfField.{upper-part}
 use Rattle.opcodes.specs.Numbers.{cfAluTaken, cfTaken, exportTaken}
@@ -18,9 +18,7 @@ use Rattle.opcodes.specs.Alu.{op2Class, op3Class, isTaken}
 use Rattle.opcodes.proofs.OfTaken.{cf-alu-number, cf-number, export-number, export-not-cf, op2-number, op3-number}
 use Rattle.microcode.specs.declared.Instruction.{Instruction}
 use Rattle.microcode.specs.declared.Instruction.the-variants.{CfAlu, Cf, Export, Op2, Op3}
-use Rattle.microcode.specs.declared.Decoded.{Decoded}
 use Rattle.microcode.specs.declared.Decoded.the-variants.{Refused, Taken}
-use Rattle.microcode.specs.declared.Encoded.{Encoded}
 use Rattle.microcode.specs.declared.Encoded.the-variants as encoded
 use Rattle.microcode.specs.declared.Stream.{Stream}
 use Rattle.microcode.specs.declared.Stream.the-variants.{ControlFlow, Alu}
@@ -39,9 +37,10 @@ use Rattle.formats.specs.Export as export
 use Rattle.formats.specs.Alu as alu
 use Rattle.microcode.specs.Pair.{openerPairOf, plainPairOf, cfPairOf, op2PairOf, op3PairOf, aluPairOf, pairOf, streamOf, encodable, lowOf, highOf}
 use Rattle.microcode.specs.Codec.{room, decodeOf, putAnswer, putWords, encodeAnswer, encodeWords}
-use Rattle.formats.proofs.OfFormats.{Format, word-again, read-fits, record-again, fields-again, cf-word0, cf-word1, cf-alu-word0, cf-alu-word1, export-word0, export-word1, alu-word0, alu-op2, alu-op3}
+use Rattle.formats.proofs.OfFormats.{word-again, read-fits, record-again, cf-word0, cf-word1, cf-alu-word0, cf-alu-word1, export-word0, export-word1, alu-word0, alu-op2, alu-op3}
 
-by-test : {P : Type 0} (b : Bool) → (b ≡ true → P) → (b ≡ false → P) → P
+-- by the outcome of a test
+pub by-test : {P : Type 0} (b : Bool) → (b ≡ true → P) → (b ≡ false → P) → P
 by-test true f g = f refl
 by-test false f g = g refl
 

@@ -1,7 +1,7 @@
 -- Decoding and encoding at a start in a buffer of words: document 01, "Numbers and what they mean", the two paragraphs on encoder and
 -- decoder. A start is a word number and may be any number.
 use Prim.Native.Nat.{ℕ, _+_}
-use mathlib.Core.Bool.{Bool, cond, _&&_}
+use mathlib.Core.Bool.{Bool, cond}
 use mathlib.Core.List.{List}
 use lib.Dec.{leb}
 use lib.ListN.{length, getD, set}

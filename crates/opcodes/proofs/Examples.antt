@@ -1,8 +1,8 @@
 -- The tables by computation: how many numbers each class has, and that each number is listed once, in rising order.
 use mathlib.Core.Path.{_≡_, refl}
-use mathlib.Core.Bool.{Bool, true, false, cond, _&&_}
+use mathlib.Core.Bool.{Bool, true, _&&_}
 use mathlib.Core.List.{List, [], _∷_}
-use Prim.Native.Nat.{ℕ, zero, suc, _+_}
+use Prim.Native.Nat.{ℕ, suc, _+_}
 use lib.Dec.{ltb}
 use lib.ListN.{length}
 use Rattle.opcodes.specs.declared.alu.Class.{Class}
@@ -11,7 +11,6 @@ use Rattle.opcodes.specs.declared.alu.Unit.the-variants.{NotTaken, Any, 
 use Rattle.opcodes.specs.declared.alu.Issue.{Issue}
 use Rattle.opcodes.specs.declared.alu.Issue.the-variants.{Plain, Predicate, Kill, Mova, Reduction}
 use Rattle.opcodes.specs.Table.{Row}
-use Rattle.opcodes.specs.Numbers.{cf, textureFetches}
 use Rattle.opcodes.specs.Alu.{op2, op3, op2Class, op3Class, notTaken}
 
 abbrev rising : {A : Type 0} → ℕ → List (Row A) → Bool

@@ -1,12 +1,12 @@
 -- A definition over a run of numbers, by one test that is computed over the run. Assumes nothing.
 use mathlib.Core.Path.{_≡_, refl, ap, sym, _∙_}
 use mathlib.Core.Logic.{⊎-elim}
-use mathlib.Core.Bool.{Bool, true, false, cond, _&&_}
+use mathlib.Core.Bool.{Bool, true, false, _&&_}
 use mathlib.Core.List.{List, [], _∷_, map}
 use Prim.Native.Nat.{ℕ, zero, suc, _+_, _≤_, _<_}
 use native.Mathlib.Nat.{eq-or-lt-of-le}
 use native.Mathlib.Omega.{arith}
-use lib.Dec.{eqb, ltb}
+use lib.Dec.{ltb}
 use lib.ListN.{getD, drop, replicate}
 use borrow.Author.Tests.{ne-eqb, ltb-true}
 use Rattle.opcodes.specs.Table.{Row, lookup}
@@ -32,6 +32,11 @@ pub record Listed {A : Type 0} (other : A) (rs : List (Row A)) (f : ℕ → A) :
 pub run : {A : Type 0} {other : A} {rs : List (Row A)} {f : ℕ → A} → Listed other rs f → (lo n : ℕ) (a : A) → map (lookup other rs) (upFrom lo n) ≡ replicate n a → (k : ℕ) → lo ≤ k → k < lo + n → a ≡ f k
 run {other = other} {rs = rs} d lo n a e k h j = sym (d .agrees k ∙ in-run (lookup other rs) lo n a e k h j)
 
+-- both halves of a test
+pub both : (a b : Bool) → a && b ≡ true → (a ≡ true) × (b ≡ true)
+both true b h = (refl, h)
+both false b h = let z : _≡_ {A = ℕ} 0 1 = cc in absurd (omega arith)
+
 -- every number of a table is below lo
 abbrev below : {A : Type 0} → ℕ → List (Row A) → Bool
 below lo [] = true
@@ -42,10 +47,6 @@ no-row other [] lo e k h = refl
 no-row other (r ∷ rs) lo e k h =
     let b = both (ltb (r .number) lo) (below lo rs) e in
     rw (ne-eqb (r .number) k (λ q. omega (arith, ltb-true (r .number) lo (b .0)))) (no-row other rs lo (b .1) k h)
-  where
-    both : (a b : Bool) → a && b ≡ true → (a ≡ true) × (b ≡ true)
-    both true b h = (refl, h)
-    both false b h = let z : _≡_ {A = ℕ} 0 1 = cc in absurd (omega arith)
 
 -- and it is what the table has for other numbers, behind the table's last one
 pub behind : {A : Type 0} {other : A} {rs : List (Row A)} {f : ℕ → A} → Listed other rs f → (lo : ℕ) → below lo rs ≡ true → (k : ℕ) → lo ≤ k → other ≡ f k

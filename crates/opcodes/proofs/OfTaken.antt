@@ -1,5 +1,5 @@
 -- What every taken number has, by one test that is computed over the table's rows. Assumes nothing.
-use mathlib.Core.Path.{_≡_, refl, ap, sym, _∙_, subst}
+use mathlib.Core.Path.{_≡_, refl, ap, sym, _∙_}
 use mathlib.Core.Bool.{Bool, true, false, cond, _&&_, not}
 use mathlib.Core.List.{List, [], _∷_}
 use Prim.Native.Nat.{ℕ, _/_, _≤_, _<_}
@@ -7,6 +7,7 @@ use native.Mathlib.Omega.{arith}
 use lib.Dec.{eqb, ltb, leb}
 use borrow.Author.Tests.{eqb-true, ltb-true, leb-true, not-true}
 use Rattle.opcodes.specs.Table.{Row, lookup}
+use Rattle.opcodes.proofs.OfRuns.{both}
 use Rattle.opcodes.specs.Numbers.{cfAlu, cf, exports, cfAluTaken, cfTaken, exportTaken}
 use Rattle.opcodes.specs.Alu.{op2, op3, op2Class, op3Class, notTaken, isTaken}
 
@@ -18,18 +19,13 @@ eachNumber q (r ∷ rs) = q (r .number) && eachNumber q rs
 -- a number for which the table has an answer that passes p, which the answer for numbers without a row does not, passes q
 each-taken : {A : Type 0} (other : A) (p : A → Bool) → p other ≡ false → (q : ℕ → Bool) (rs : List (Row A)) → eachNumber q rs ≡ true → (n : ℕ) → p (lookup other rs n) ≡ true → q n ≡ true
 each-taken other p f q [] h n t = let z : _≡_ {A = ℕ} 0 1 = cc in absurd (omega arith)
-each-taken other p f q (r ∷ rs) h n t = by (eqb (r .number) n) refl t (each-taken other p f q rs (second (q (r .number)) (eachNumber q rs) h) n)
+each-taken other p f q (r ∷ rs) h n t = by (eqb (r .number) n) refl t (each-taken other p f q rs (halves .1) n)
   where
-    first : (a b : Bool) → a && b ≡ true → a ≡ true
-    first true b e = refl
-    first false b e = e
-
-    second : (a b : Bool) → a && b ≡ true → b ≡ true
-    second true b e = e
-    second false b e = let z : _≡_ {A = ℕ} 0 1 = cc in absurd (omega arith)
+    halves : (q (r .number) ≡ true) × (eachNumber q rs ≡ true)
+    halves = both (q (r .number)) (eachNumber q rs) h
 
     by : (b : Bool) → eqb (r .number) n ≡ b → p (cond b (r .answer) (lookup other rs n)) ≡ true → (p (lookup other rs n) ≡ true → q n ≡ true) → q n ≡ true
-    by true e t k = ap q (sym (eqb-true (r .number) n e)) ∙ first (q (r .number)) (eachNumber q rs) h
+    by true e t k = ap q (sym (eqb-true (r .number) n e)) ∙ halves .0
     by false e t k = k t
 
 same : Bool → Bool

@@ -1,6 +1,6 @@
 -- A record that is written and read, by what the encoder answered. Assumes nothing.
-use mathlib.Core.Path.{_≡_, refl, sym, ap, _∙_}
-use mathlib.Core.Bool.{Bool, true, false, cond}
+use mathlib.Core.Path.{_≡_, refl, sym, _∙_}
+use mathlib.Core.Bool.{Bool, true, false}
 use mathlib.Core.List.{List}
 use Prim.Native.Nat.{ℕ}
 use native.Mathlib.Omega.{arith}
@@ -15,12 +15,8 @@ use Rattle.microcode.specs.declared.Encoded.the-variants as encoded
 use Rattle.microcode.specs.declared.Stream.{Stream}
 use Rattle.microcode.specs.Pair.{encodable, streamOf}
 use Rattle.microcode.specs.Codec.{room, decodeOf, putAnswer, encodeAnswer, encodeWords}
-use Rattle.microcode.proofs.RoundTrip.{record-again-at}
+use Rattle.microcode.proofs.RoundTrip.{by-test, record-again-at}
 use Rattle.roundtrip.specs.Again.{recordAnswer}
-
-by-test : {P : Type 0} (b : Bool) → (b ≡ true → P) → (b ≡ false → P) → P
-by-test true f g = f refl
-by-test false f g = g refl
 
 never : {A : Type 0} {r : Rule} → encoded.Refused r ≡ encoded.Done → A
 never e = let z : _≡_ {A = ℕ} 0 1 = cc in absurd (omega arith)

@@ -1,13 +1,12 @@
 -- The cap of 64 bits is out of the way: it changes no number that 64 bits hold, and no comparison with a limit below it. So no
 -- ADDR of 32 bits can seem to lie inside a buffer by wrapping round. Assumes nothing.
-use mathlib.Core.Path.{_≡_, refl, ap, sym, _∙_}
+use mathlib.Core.Path.{_≡_, refl, ap}
 use mathlib.Core.Bool.{Bool, true, false}
-use Prim.Native.Nat.{ℕ, _+_, _*_, _-_, _^_, _<_, _≤_}
+use Prim.Native.Nat.{ℕ, _+_, _*_, _-_, _^_, _<_}
 use native.Mathlib.Omega.{arith}
 use lib.Dec.{leb}
 use borrow.Author.Tests.{leb-true, leb-false, le-leb, lt-leb}
 use Rattle.units.specs.declared.Quadwords.{Quadwords}
-use Rattle.units.specs.declared.Slots.{Slots}
 use Rattle.units.specs.Units.{quadwords, slots, words, capped, lowWord, highWord, counted, slotsLength, fetchesLength, rangeEnd, isAtMost}
 
 pub capped-exact : (n : ℕ) → n < 2 ^ 64 → capped n ≡ n

@@ -1,14 +1,14 @@
 -- `bits::with_field` meets its contract: what is above the field, the field and what is below it have no bit in common, so that
 -- joining them by `|` adds them; of a field that runs past bit 31 the part in the word is joined. Assumes nothing.
 use borrow.Author.Needs.{needs}
-use mathlib.Core.Path.{_≡_, refl, sym, ap, ap₂, _∙_, subst}
+use mathlib.Core.Path.{_≡_, sym, ap, ap₂, _∙_, subst}
 use Prim.Native.Nat.{ℕ, _+_, _-_, _*_, _/_, _%_, _^_, _≤_, _<_}
-use native.Mathlib.Nat.{mod-lt, mod-eq-of-lt, div-eq-of-lt, lt-of-lt-of-le, lt-of-le-of-lt, div-mul-le-self, div-one, mul-comm, mul-assoc, add-zero, zero-add, zero-mul, add-assoc, sub-add-cancel}
+use native.Mathlib.Nat.{mod-lt, mod-eq-of-lt, div-eq-of-lt, lt-of-lt-of-le, lt-of-le-of-lt, div-mul-le-self, div-one, mul-comm, mul-assoc, add-zero, zero-add, zero-mul, sub-add-cancel}
 use native.Mathlib.Omega.{arith}
 use lib.Pow.{pow-pos, pow-add, pow-mono, high, low, mod-pow-add, shl-lt, shl-exact, shr-le}
 use lib.Bits.{bitOr, or-shifted}
 use Rattle.bits.specs.Fields.{withField, fieldOf, placeOf}
-use Rattle.bits.proofs.OfField.{spliced, spliced-at, in-word}
+use Rattle.bits.proofs.OfField.{spliced-at, in-word}
 use Rattle.bits.proofs.with_field.Statement.{statement}
 use Rattle.bits.proofs.with_field.Tie as tie
 

@@ -1,6 +1,6 @@
 -- `checks::rule_number` meets its contract: each arm answers the number of the rule that it matched. Assumes nothing.
 use borrow.Author.Needs.{needs}
-use mathlib.Core.Path.{_≡_, sym, ap}
+use mathlib.Core.Path.{sym, ap}
 use Rattle.checks.specs.Verdict.{numberOf}
 use Rattle.checks.proofs.rule_number.Statement.{statement}
 use Rattle.checks.proofs.rule_number.Tie as tie

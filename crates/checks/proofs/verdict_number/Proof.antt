@@ -1,6 +1,6 @@
 -- `checks::verdict_number` meets its contract: an accepted verdict has 0, a refusal its rule's number. Assumes nothing.
 use borrow.Author.Needs.{needs}
-use mathlib.Core.Path.{_≡_, sym, ap, _∙_}
+use mathlib.Core.Path.{sym, ap, _∙_}
 use Rattle.checks.specs.Verdict.{verdictNumber}
 use Rattle.checks.proofs.verdict_number.Statement.{statement}
 use Rattle.checks.proofs.verdict_number.Tie as tie

@@ -1,6 +1,6 @@
 -- `checks::verdict_place` meets its contract: an accepted verdict has 0, a refusal the number of its place. Assumes nothing.
 use borrow.Author.Needs.{needs}
-use mathlib.Core.Path.{_≡_, sym, ap, _∙_}
+use mathlib.Core.Path.{sym, ap, _∙_}
 use Rattle.checks.specs.Verdict.{verdictPlace}
 use Rattle.checks.proofs.verdict_place.Statement.{statement}
 use Rattle.checks.proofs.verdict_place.Tie as tie

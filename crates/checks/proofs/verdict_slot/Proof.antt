@@ -1,6 +1,6 @@
 -- `checks::verdict_slot` meets its contract: an accepted verdict has 0, a refusal its slot. Assumes nothing.
 use borrow.Author.Needs.{needs}
-use mathlib.Core.Path.{_≡_, sym, ap, _∙_}
+use mathlib.Core.Path.{sym, ap}
 use Rattle.checks.specs.Verdict.{verdictSlot}
 use Rattle.checks.proofs.verdict_slot.Statement.{statement}
 use Rattle.checks.proofs.verdict_slot.Tie as tie

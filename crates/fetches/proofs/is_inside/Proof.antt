@@ -1,6 +1,6 @@
 -- `fetches::is_inside` meets its contract: in quadwords as in words. Assumes nothing.
 use borrow.Author.Needs.{needs}
-use mathlib.Core.Path.{_≡_, _∙_}
+use mathlib.Core.Path.{_∙_}
 use Prim.Native.Nat.{_<_, _^_}
 use Rattle.units.specs.Units.{rangeEnd, isAtMost}
 use Rattle.fetches.proofs.OfClause.{inside}

@@ -1,5 +1,4 @@
 -- `grants::source_granted` meets its contract: each range of numbers is the definition's. Assumes nothing.
-use native.Mathlib.Omega.{arith}
 use Rattle.grants.proofs.OfGrants.{of-register, of-set0, of-set1, of-special, of-constant}
 use Rattle.grants.proofs.source_granted.Statement.{statement}
 use Rattle.grants.proofs.source_granted.Tie as tie

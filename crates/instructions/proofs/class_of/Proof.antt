@@ -1,5 +1,5 @@
 -- `instructions::class_of` meets its contract: by the format. Assumes nothing.
-use mathlib.Core.Path.{_≡_, refl, sym, ap, _∙_}
+use mathlib.Core.Path.{sym, ap, _∙_}
 use Rattle.opcodes.specs.Alu.{op2Class, op3Class}
 use Rattle.instructions.proofs.OfInstruction.{class-op2, class-op3}
 use Rattle.instructions.proofs.class_of.Statement.{statement}

@@ -1,5 +1,5 @@
 -- `instructions::destination_granted` meets its contract: not written, relative, or named. Assumes nothing.
-use mathlib.Core.Path.{_≡_, refl, sym, ap, _∙_}
+use mathlib.Core.Path.{sym, ap, _∙_}
 use Prim.Native.Nat.{ℕ}
 use borrow.Author.Tests.{not-true, not-false}
 use Rattle.grants.specs.Grants.{aluRegister, granted}

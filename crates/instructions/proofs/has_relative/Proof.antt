@@ -1,5 +1,5 @@
 -- `instructions::has_relative` meets its contract: test by test. Assumes nothing.
-use mathlib.Core.Path.{_≡_, refl, sym, ap, _∙_}
+use mathlib.Core.Path.{sym, ap, _∙_}
 use Rattle.instructions.proofs.OfInstruction.{is-eq, is-ne, of-made, relative-destination, relative-source0, relative-source1, relative-source2, relative-none}
 use Rattle.instructions.specs.Instruction.{isRelative}
 use Rattle.instructions.proofs.has_relative.Statement.{statement}

@@ -1,5 +1,5 @@
 -- `instructions::is_bad_field` meets its contract: test by test. Assumes nothing.
-use mathlib.Core.Path.{_≡_, refl, sym, ap, _∙_}
+use mathlib.Core.Path.{sym, ap, _∙_}
 use Rattle.instructions.proofs.OfInstruction.{is-eq, is-ne, is-above, is-within, of-made, bad-pred, bad-index, bad-swizzle, bad-source0, bad-source1, bad-source2, bad-none}
 use Rattle.instructions.specs.Instruction.{badSource}
 use Rattle.instructions.proofs.is_bad_field.Statement.{statement}

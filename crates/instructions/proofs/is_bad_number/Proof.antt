@@ -1,5 +1,5 @@
 -- `instructions::is_bad_number` meets its contract: the class says whether the number is taken. Assumes nothing.
-use mathlib.Core.Path.{_≡_, ap, _∙_}
+use mathlib.Core.Path.{ap, _∙_}
 use mathlib.Core.Bool.{not}
 use Rattle.opcodes.specs.Alu.{isTaken}
 use Rattle.instructions.specs.Instruction.{badNumber}

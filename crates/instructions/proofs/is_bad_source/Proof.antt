@@ -1,5 +1,4 @@
 -- `instructions::is_bad_source` meets its contract: by the ranges of its number. Assumes nothing.
-use mathlib.Core.Path.{_≡_, refl, sym, ap, _∙_}
 use borrow.Author.Tests.{lt-ltb, le-ltb}
 use Rattle.instructions.specs.Instruction.{badSource}
 use Rattle.instructions.proofs.is_bad_source.Statement.{statement}

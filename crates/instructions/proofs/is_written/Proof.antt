@@ -1,5 +1,5 @@
 -- `instructions::is_written` meets its contract: OP3, or the mask. Assumes nothing.
-use mathlib.Core.Path.{_≡_, refl, sym, ap, _∙_}
+use mathlib.Core.Path.{sym, ap, _∙_}
 use Prim.Native.Nat.{ℕ}
 use lib.Dec.{eqb}
 use Rattle.instructions.specs.Instruction.{isWritten}

@@ -1,5 +1,5 @@
 -- `instructions::literals_of` meets its contract: the largest of its sources'. Assumes nothing.
-use mathlib.Core.Path.{_≡_, refl, sym, ap, _∙_}
+use mathlib.Core.Path.{sym, ap, _∙_}
 use Prim.Native.Nat.{max}
 use Rattle.instructions.proofs.OfInstruction.{literals-two, literals-three}
 use Rattle.instructions.specs.Instruction.{sourceLiterals}

@@ -1,5 +1,5 @@
 -- `instructions::operands_granted` meets its contract: destination, then sources. Assumes nothing.
-use mathlib.Core.Path.{_≡_, refl, sym, ap, _∙_}
+use mathlib.Core.Path.{sym, ap, _∙_}
 use borrow.Author.Tests.{not-true, not-false}
 use Rattle.grants.specs.Grants.{allGranted}
 use Rattle.instructions.specs.declared.Source.{Source}

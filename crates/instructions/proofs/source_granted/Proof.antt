@@ -1,5 +1,5 @@
 -- `instructions::source_granted` meets its contract: relative or named. Assumes nothing.
-use mathlib.Core.Path.{_≡_, refl, sym, ap, _∙_}
+use mathlib.Core.Path.{sym, _∙_}
 use Rattle.instructions.specs.Instruction.{namesOf}
 use Rattle.instructions.proofs.source_granted.Statement.{statement}
 use Rattle.instructions.proofs.source_granted.Tie as tie

@@ -1,6 +1,6 @@
 -- `microcode::high_word` meets its contract: each form has its own writer. Assumes nothing.
 use borrow.Author.Needs.{needs}
-use mathlib.Core.Path.{_≡_, sym, ap, _∙_}
+use mathlib.Core.Path.{sym, ap, _∙_}
 use Rattle.microcode.specs.Pair.{highOf}
 use Rattle.microcode.proofs.high_word.Statement.{statement}
 use Rattle.microcode.proofs.high_word.Tie as tie

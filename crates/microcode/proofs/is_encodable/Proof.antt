@@ -1,6 +1,6 @@
 -- `microcode::is_encodable` meets its contract: each form has tests of its own. Assumes nothing.
 use borrow.Author.Needs.{needs}
-use mathlib.Core.Path.{_≡_, sym, ap, _∙_}
+use mathlib.Core.Path.{sym, ap, _∙_}
 use mathlib.Core.Bool.{_&&_}
 use Rattle.opcodes.specs.Alu.{isTaken}
 use Rattle.microcode.specs.Pair.{encodable}

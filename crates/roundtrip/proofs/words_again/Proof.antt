@@ -1,6 +1,6 @@
 -- `roundtrip::words_again` meets its contract: what was read from the words is written to them again. Assumes nothing.
 use borrow.Author.Needs.{needs}
-use mathlib.Core.Path.{_≡_, refl, sym, ap, _∙_}
+use mathlib.Core.Path.{refl, sym, ap, _∙_}
 use denote.Ref.{now}
 use Rattle.microcode.proofs.RoundTrip.{words-again}
 use Rattle.roundtrip.specs.Again.{wordsAnswer}

@@ -1,5 +1,5 @@
 -- `formats::alu::write_op3` meets its contract: joining the placed fields packs them. Assumes nothing.
-use mathlib.Core.Path.{_≡_, refl, _∙_}
+use mathlib.Core.Path.{refl, _∙_}
 use lib.Bits.{bitOr}
 use Rattle.bits.proofs.OfRows.{joined-word}
 use Rattle.formats.specs.Alu.{op3Table, op3Values}

@@ -1,7 +1,6 @@
 -- `formats::cf::write_word0` meets its contract: joining the placed fields packs them. Assumes nothing.
 use borrow.Author.Needs.{needs}
-use mathlib.Core.Path.{_≡_, refl, _∙_}
-use lib.Bits.{bitOr}
+use mathlib.Core.Path.{refl, _∙_}
 use Rattle.bits.proofs.OfRows.{joined-word}
 use Rattle.formats.specs.Cf.{word0Table, word0Values}
 use Rattle.formats.proofs.Places.{place-cut}

@@ -1,7 +1,7 @@
 -- `formats::cf::write_word1` meets its contract: joining the placed fields packs them. Assumes nothing.
 use borrow.Author.Needs.{needs}
 use Prim.Native.Nat.{_/_}
-use mathlib.Core.Path.{_≡_, refl, _∙_}
+use mathlib.Core.Path.{refl, _∙_}
 use lib.Bits.{bitOr}
 use Rattle.bits.proofs.OfRows.{joined-word}
 use Rattle.formats.specs.Cf.{word1Table, word1Values}
