@@ -1,25 +1,14 @@
 -- Grants by what the code tests, and a name read off a list of granted ones. Assumes nothing.
 use mathlib.Core.Path.{_≡_, refl, sym, ap, _∙_}
-use mathlib.Core.Bool.{Bool, true, false, _&&_, and-true}
+use mathlib.Core.Bool.{Bool, true, false, cond, _&&_, _||_, and-true}
 use mathlib.Core.List.{List, [], _∷_, _++_, List·Memᴰ, List·Memᴰ·not-nil, List·Memᴰ·cases-cons}
 use mathlib.Core.Logic.{⊎-elim}
-use Prim.Native.Nat.{ℕ, _-_, _≤_, _<_}
+use Prim.Native.Nat.{ℕ, _+_, _-_, _≤_, _<_}
 use native.Mathlib.Omega.{arith}
-use lib.Dec.{ltb, leb}
-use borrow.Author.Tests.{lt-ltb, le-ltb, le-leb, eq-eqb, ne-eqb}
+use lib.Dec.{eqb, ltb, leb}
+use borrow.Author.Tests.{lt-ltb, le-ltb, le-leb, lt-leb, ltb-true, ltb-false, leb-true, leb-false, eq-eqb, ne-eqb}
 use Rattle.grants.specs.declared.Limits.{Limits}
 use Rattle.grants.specs.Grants.{Name, aluRegister, set0, set1, constant, locked, granted, allGranted, sourceNames}
-
--- ---- a register of an ALU instruction
-
-pub below-gprs : (l : Limits) (r : ℕ) → r < l .gprs → true ≡ granted l (aluRegister r)
-below-gprs l r h = rw (lt-ltb r (l .gprs) h)
-
-pub many-temps : (l : Limits) (r : ℕ) → l .gprs ≤ r → 128 < l .temps → true ≡ granted l (aluRegister r)
-many-temps l r h k = rw (le-ltb r (l .gprs) h, le-leb (128 - l .temps) r (omega arith))
-
-pub by-temps : (l : Limits) (r : ℕ) → l .gprs ≤ r → leb (128 - l .temps) r ≡ granted l (aluRegister r)
-by-temps l r h = rw (le-ltb r (l .gprs) h)
 
 -- ---- the modes
 
@@ -31,34 +20,6 @@ locked-first m h k = rw (ne-eqb m 0 h, eq-eqb m 1 k)
 
 pub locked-all : (m : ℕ) → (m ≡ 0 → ⊥) → (m ≡ 1 → ⊥) → 32 ≡ locked m
 locked-all m h k = rw (ne-eqb m 0 h, ne-eqb m 1 k)
-
--- ---- a source
-
-module _ (l : Limits) (s : ℕ) where
-  pub of-register : (t : Bool) → s < 128 → t ≡ granted l (aluRegister s) → t ≡ allGranted l (sourceNames s)
-  of-register t h e = rw (lt-ltb s 128 h) (e ∙ sym (and-true (granted l (aluRegister s))))
-
-  pub of-set0 : (n : ℕ) → 128 ≤ s → s < 160 → n ≡ locked (l .mode0) → ltb (s - 128) n ≡ allGranted l (sourceNames s)
-  of-set0 n g h e =
-      rw (le-ltb s 128 g, lt-ltb s 160 h) (ap (ltb (s - 128)) e ∙ sym (and-true (granted l (set0 (s - 128)))))
-
-  pub of-set1 : (n : ℕ) → 160 ≤ s → s < 192 → n ≡ locked (l .mode1) → ltb (s - 160) n ≡ allGranted l (sourceNames s)
-  of-set1 n g h e =
-      let f : 128 ≤ s = omega arith in
-      rw (le-ltb s 128 f, le-ltb s 160 g, lt-ltb s 192 h) (ap (ltb (s - 160)) e ∙ sym (and-true (granted l (set1 (s - 160)))))
-
-  pub of-special : 192 ≤ s → s < 256 → true ≡ allGranted l (sourceNames s)
-  of-special g h =
-      let e : 128 ≤ s = omega arith in
-      let f : 160 ≤ s = omega arith in
-      rw (le-ltb s 128 e, le-ltb s 160 f, le-ltb s 192 g, lt-ltb s 256 h)
-
-  pub of-constant : 256 ≤ s → ltb (s - 256) (l .consts) ≡ allGranted l (sourceNames s)
-  of-constant h =
-      let e : 128 ≤ s = omega arith in
-      let f : 160 ≤ s = omega arith in
-      let g : 192 ≤ s = omega arith in
-      rw (le-ltb s 128 e, le-ltb s 160 f, le-ltb s 192 g, le-ltb s 256 h) (sym (and-true (granted l (constant (s - 256)))))
 
 -- ---- a list
 
@@ -92,3 +53,60 @@ joined-refused l a b h = granted-joined l a b ∙ ap (λ (t : Bool). t && allGra
 
 pub joined-passed : (l : Limits) (a b : List Name) → allGranted l a ≡ true → allGranted l (a ++ b) ≡ allGranted l b
 joined-passed l a b h = granted-joined l a b ∙ ap (λ (t : Bool). t && allGranted l b) h
+
+-- two lists together
+pub all-joined : (l : Limits) (a b : List Name) → allGranted l (a ++ b) ≡ (allGranted l a && allGranted l b)
+all-joined l [] b = refl
+all-joined l (n ∷ a) b = by (granted l n) (all-joined l a b)
+  where
+    by : (t : Bool) → allGranted l (a ++ b) ≡ (allGranted l a && allGranted l b) → (t && allGranted l (a ++ b)) ≡ ((t && allGranted l a) && allGranted l b)
+    by true h = h
+    by false h = refl
+
+-- ---- tests without a branch
+
+pub temps-side : (r t : ℕ) → leb 128 (r + t) ≡ leb (128 - t) r
+temps-side r t = by (leb (128 - t) r) refl
+  where
+    by : (b : Bool) → leb (128 - t) r ≡ b → leb 128 (r + t) ≡ b
+    by true e = le-leb 128 (r + t) (omega (arith, leb-true (128 - t) r e))
+    by false e = lt-leb 128 (r + t) (omega (arith, leb-false (128 - t) r e))
+
+pub locked-most : (m : ℕ) → locked m ≤ 32
+locked-most m = by (eqb m 0) (eqb m 1)
+  where
+    by : (a b : Bool) → cond a 0 (cond b 16 32) ≤ 32
+    by true b = omega arith
+    by false true = omega arith
+    by false false = omega arith
+
+or-nothing : (b : Bool) → (b || false) ≡ (b && true)
+or-nothing true = refl
+or-nothing false = refl
+
+same-bound : (s k n : ℕ) → k ≤ s → ltb s (k + n) ≡ ltb (s - k) n
+same-bound s k n l = by (ltb (s - k) n) refl
+  where
+    by : (b : Bool) → ltb (s - k) n ≡ b → ltb s (k + n) ≡ b
+    by true e = lt-ltb s (k + n) (omega (arith, ltb-true (s - k) n e))
+    by false e = le-ltb s (k + n) (omega (arith, ltb-false (s - k) n e))
+
+module _ (l : Limits) (s : ℕ) where
+  -- below the bound of its kind, or a clause temporary
+  abbrev pub tests : Bool
+  tests =
+      ltb s (cond (ltb s 128) (l .gprs) (cond (ltb s 160) (128 + locked (l .mode0)) (cond (ltb s 192) (160 + locked (l .mode1)) (cond (ltb s 256) 256 (256 + l .consts)))))
+      || (ltb s 128 && leb 128 (s + l .temps))
+
+  in-order : (a : Bool) → ltb s 128 ≡ a → (b : Bool) → ltb s 160 ≡ b → (d : Bool) → ltb s 192 ≡ d → (e : Bool) → ltb s 256 ≡ e → tests ≡ allGranted l (sourceNames s)
+  in-order true a b p d q e r = rw (a, temps-side s (l .temps)) (sym (and-true (granted l (aluRegister s))))
+  in-order false a true p d q e r =
+      rw (a, p, same-bound s 128 (locked (l .mode0)) (ltb-false s 128 a)) (or-nothing (ltb (s - 128) (locked (l .mode0))))
+  in-order false a false p true q e r =
+      rw (a, p, q, same-bound s 160 (locked (l .mode1)) (ltb-false s 160 p)) (or-nothing (ltb (s - 160) (locked (l .mode1))))
+  in-order false a false p false q true r = rw (a, p, q, r, lt-ltb s 256 (ltb-true s 256 r))
+  in-order false a false p false q false r =
+      rw (a, p, q, r, same-bound s 256 (l .consts) (ltb-false s 256 r)) (or-nothing (ltb (s - 256) (l .consts)))
+
+  pub source-tests : tests ≡ allGranted l (sourceNames s)
+  source-tests = in-order (ltb s 128) refl (ltb s 160) refl (ltb s 192) refl (ltb s 256) refl

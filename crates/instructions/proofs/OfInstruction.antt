@@ -1,92 +1,22 @@
--- Questions about one instruction, by what the code tests. Assumes nothing.
-use mathlib.Core.Path.{_≡_, sym, ap, _∙_}
-use mathlib.Core.Bool.{Bool, true, false, cond, and-true}
-use mathlib.Core.List.{List, []}
+-- Questions about one instruction, by tests that are joined and not branched on. Assumes nothing.
+use mathlib.Core.Path.{_≡_, refl, sym, ap, _∙_}
+use mathlib.Core.Bool.{Bool, true, false, cond, not, _&&_, _||_, and-true}
+use mathlib.Core.List.{List, [], _∷_, _++_}
 use Prim.Native.Nat.{ℕ, max, _≤_, _<_}
 use native.Mathlib.Omega.{arith}
-use lib.Dec.{eqb, ltb}
-use borrow.Author.Tests.{eq-eqb, ne-eqb, lt-ltb, le-ltb}
+use lib.Dec.{eqb, ltb, leb}
+use borrow.Author.Tests.{lt-ltb, le-ltb, lt-leb, le-leb, ltb-true, ltb-false}
 use Rattle.bits.specs.Fields.{fieldOf}
 use Rattle.opcodes.specs.Alu.{op2Class, op3Class}
 use Rattle.grants.specs.declared.Limits.{Limits}
-use Rattle.grants.specs.Grants.{Name, aluRegister, granted, allGranted}
-use Rattle.grants.proofs.OfGrants.{joined-refused, joined-passed}
-use Rattle.instructions.specs.Instruction.{isOp3, classOf, source0Of, source1Of, source2Of, isRelative, sourceLiterals, literals, badSource, badField, hasRelative, isWritten, destinationNames, namesOf, named}
+use Rattle.grants.specs.Grants.{Name, aluRegister, granted, allGranted, sourceNames}
+use Rattle.grants.proofs.OfGrants.{all-joined}
+use Rattle.instructions.specs.declared.Source.{Source}
+use Rattle.instructions.specs.Instruction.{isOp3, classOf, source0Of, source1Of, source2Of, noSource, thirdOf, isRelative, sourceLiterals, literals, badSource, badField, hasRelative, isWritten, destinationNames, namesOf, named}
 
--- a test of a field that was read
-pub is-eq : {x y k : ℕ} → x ≡ y → x ≡ k → eqb y k ≡ true
-is-eq {x} {y} {k} e h = eq-eqb y k (sym e ∙ h)
+-- ---- the class
 
-pub is-ne : {x y k : ℕ} → x ≡ y → (x ≡ k → ⊥) → eqb y k ≡ false
-is-ne {x} {y} {k} e h = ne-eqb y k (λ q. h (e ∙ q))
-
-pub is-above : (k : ℕ) {x y : ℕ} → x ≡ y → k < x → ltb k y ≡ true
-is-above k {x} {y} e h = ap (ltb k) (sym e) ∙ lt-ltb k x h
-
-pub is-within : (k : ℕ) {x y : ℕ} → x ≡ y → x ≤ k → ltb k y ≡ false
-is-within k {x} {y} e h = ap (ltb k) (sym e) ∙ le-ltb k x h
-
--- a test of a value that was made
-pub of-made : {A : Type 0} (f : A → Bool) {a b : A} {r t : Bool} → a ≡ b → r ≡ f a → r ≡ t → f b ≡ t
-of-made f e p q = ap f (sym e) ∙ sym p ∙ q
-
--- ---- rule 12, test by test
-
-module _ (lo hi : ℕ) where
-  pub bad-pred : eqb (fieldOf lo 29 2) 1 ≡ true → true ≡ badField lo hi
-  unfolding badField
-  bad-pred a = rw a
-
-  pub bad-index : eqb (fieldOf lo 29 2) 1 ≡ false → ltb 4 (fieldOf lo 26 3) ≡ true → true ≡ badField lo hi
-  unfolding badField
-  bad-index a b = rw (a, b)
-
-  pub bad-swizzle : eqb (fieldOf lo 29 2) 1 ≡ false → ltb 4 (fieldOf lo 26 3) ≡ false → ltb 5 (fieldOf hi 18 3) ≡ true → true ≡ badField lo hi
-  unfolding badField
-  bad-swizzle a b d = rw (a, b, d)
-
-  module _ (a : eqb (fieldOf lo 29 2) 1 ≡ false) (b : ltb 4 (fieldOf lo 26 3) ≡ false) (d : ltb 5 (fieldOf hi 18 3) ≡ false) where
-    pub bad-source0 : badSource (source0Of lo) ≡ true → true ≡ badField lo hi
-    unfolding badField
-    bad-source0 e = rw (a, b, d, e)
-
-    pub bad-source1 : badSource (source0Of lo) ≡ false → badSource (source1Of lo) ≡ true → true ≡ badField lo hi
-    unfolding badField
-    bad-source1 e f = rw (a, b, d, e, f)
-
-    pub bad-source2 : badSource (source0Of lo) ≡ false → badSource (source1Of lo) ≡ false → isOp3 hi ≡ true → badSource (source2Of hi) ≡ badField lo hi
-    unfolding badField
-    bad-source2 e f g = rw (a, b, d, e, f, g)
-
-    pub bad-none : badSource (source0Of lo) ≡ false → badSource (source1Of lo) ≡ false → isOp3 hi ≡ false → false ≡ badField lo hi
-    unfolding badField
-    bad-none e f g = rw (a, b, d, e, f, g)
-
-  -- ---- relative bits
-
-  pub relative-destination : eqb (fieldOf hi 28 1) 0 ≡ false → true ≡ hasRelative lo hi
-  unfolding hasRelative
-  relative-destination a = rw a
-
-  module _ (a : eqb (fieldOf hi 28 1) 0 ≡ true) where
-    pub relative-source0 : isRelative (source0Of lo) ≡ true → true ≡ hasRelative lo hi
-    unfolding hasRelative
-    relative-source0 b = rw (a, b)
-
-    pub relative-source1 : isRelative (source0Of lo) ≡ false → isRelative (source1Of lo) ≡ true → true ≡ hasRelative lo hi
-    unfolding hasRelative
-    relative-source1 b d = rw (a, b, d)
-
-    pub relative-source2 : isRelative (source0Of lo) ≡ false → isRelative (source1Of lo) ≡ false → isOp3 hi ≡ true → isRelative (source2Of hi) ≡ hasRelative lo hi
-    unfolding hasRelative
-    relative-source2 b d e = rw (a, b, d, e)
-
-    pub relative-none : isRelative (source0Of lo) ≡ false → isRelative (source1Of lo) ≡ false → isOp3 hi ≡ false → false ≡ hasRelative lo hi
-    unfolding hasRelative
-    relative-none b d e = rw (a, b, d, e)
-
-  -- ---- the class
-
+module _ (hi : ℕ) where
   pub class-op3 : isOp3 hi ≡ true → op3Class (fieldOf hi 13 5) ≡ classOf hi
   unfolding classOf
   class-op3 h = rw h
@@ -95,60 +25,110 @@ module _ (lo hi : ℕ) where
   unfolding classOf
   class-op2 h = rw h
 
-  -- ---- literals
+-- ---- the third source
 
-  pub literals-three : isOp3 hi ≡ true → max (max (sourceLiterals (source0Of lo)) (sourceLiterals (source1Of lo))) (sourceLiterals (source2Of hi)) ≡ literals lo hi
+-- what is asked of it is asked of an OP3's source 2, and of what stands for it in an OP2
+by-third : {A : Type 0} (f : Source → A) (hi : ℕ) → f (thirdOf hi) ≡ cond (isOp3 hi) (f (source2Of hi)) (f noSource)
+unfolding thirdOf
+by-third f hi = by (isOp3 hi)
+  where
+    by : (b : Bool) → f (cond b (source2Of hi) noSource) ≡ cond b (f (source2Of hi)) (f noSource)
+    by true = refl
+    by false = refl
+
+pub third-made : (hi : ℕ) {b : Bool} {x y z sel rel chan : ℕ} → b ≡ isOp3 hi → x ≡ fieldOf hi 0 9 → sel ≡ cond b x 248 → y ≡ fieldOf hi 9 1 → rel ≡ cond b y 0 → z ≡ fieldOf hi 10 2 → chan ≡ cond b z 0 → record { sel = sel; rel = rel; chan = chan } ≡ thirdOf hi
+unfolding thirdOf
+third-made hi e x sel y rel z chan =
+    (λ n.
+    record {
+      sel = (sel ∙ (λ k. cond (e k) (x k) 248)) n;
+      rel = (rel ∙ (λ k. cond (e k) (y k) 0)) n;
+      chan = (chan ∙ (λ k. cond (e k) (z k) 0)) n;
+    })
+    ∙ by (isOp3 hi)
+  where
+    by : (b : Bool) → record { sel = cond b (fieldOf hi 0 9) 248; rel = cond b (fieldOf hi 9 1) 0; chan = cond b (fieldOf hi 10 2) 0 } ≡ cond b (source2Of hi) noSource
+    by true = refl
+    by false = refl
+
+only-if : (b d : Bool) → cond b d false ≡ (b && d)
+only-if true d = refl
+only-if false d = refl
+
+third-bad : (hi : ℕ) → badSource (thirdOf hi) ≡ (isOp3 hi && badSource (source2Of hi))
+unfolding badSource isRelative
+third-bad hi = by-third badSource hi ∙ only-if (isOp3 hi) (badSource (source2Of hi))
+
+third-relative : (hi : ℕ) → isRelative (thirdOf hi) ≡ (isOp3 hi && isRelative (source2Of hi))
+unfolding isRelative
+third-relative hi = by-third isRelative hi ∙ only-if (isOp3 hi) (isRelative (source2Of hi))
+
+third-literals : (hi : ℕ) → sourceLiterals (thirdOf hi) ≡ cond (isOp3 hi) (sourceLiterals (source2Of hi)) 0
+unfolding sourceLiterals
+third-literals hi = by-third sourceLiterals hi
+
+third-names : (hi : ℕ) → namesOf (thirdOf hi) ≡ cond (isOp3 hi) (namesOf (source2Of hi)) []
+unfolding namesOf isRelative
+third-names hi = by-third namesOf hi
+
+-- ---- a source
+
+pub bad-tests : (s : Source) → ((leb 192 (s .sel) && ltb (s .sel) 248) || ((leb 248 (s .sel) && ltb (s .sel) 256) && isRelative s)) ≡ badSource s
+unfolding badSource
+bad-tests s = by (ltb (s .sel) 192) refl (ltb (s .sel) 248) refl (ltb (s .sel) 256)
+  where
+    by : (a : Bool) → ltb (s .sel) 192 ≡ a → (b : Bool) → ltb (s .sel) 248 ≡ b → (d : Bool)
+        → ((leb 192 (s .sel) && b) || ((leb 248 (s .sel) && d) && isRelative s)) ≡ cond a false (cond b true (cond d (isRelative s) false))
+    by true e b f d =
+        let h = ltb-true (s .sel) 192 e in rw (lt-leb 192 (s .sel) h, lt-leb 248 (s .sel) (omega arith))
+    by false e true f d = rw (le-leb 192 (s .sel) (ltb-false (s .sel) 192 e))
+    by false e false f d =
+        let h = ltb-false (s .sel) 248 f in
+        rw (le-leb 192 (s .sel) (omega arith), le-leb 248 (s .sel) h) (sym (only-if d (isRelative s)))
+
+pub relative-or-granted : (l : Limits) (s : Source) {a b : Bool} → a ≡ isRelative s → b ≡ allGranted l (sourceNames (s .sel)) → (a || b) ≡ allGranted l (namesOf s)
+unfolding namesOf
+relative-or-granted l s e f = (λ i. e i || f i) ∙ by (isRelative s)
+  where
+    by : (t : Bool) → (t || allGranted l (sourceNames (s .sel))) ≡ allGranted l (cond t [] (sourceNames (s .sel)))
+    by true = refl
+    by false = refl
+
+-- ---- an instruction
+
+-- a question of a source that was read
+pub asked : {A : Type 0} (f : Source → A) {s t : Source} {r : A} → s ≡ t → r ≡ f s → r ≡ f t
+asked f e p = p ∙ ap f e
+
+pub destination-tests : (hi : ℕ) (l : Limits) {w : Bool} {x g : ℕ} {ok : Bool} → w ≡ isWritten hi → x ≡ fieldOf hi 28 1 → g ≡ fieldOf hi 21 7 → ok ≡ granted l (aluRegister g) → (not (w && eqb x 0) || ok) ≡ allGranted l (destinationNames hi)
+unfolding destinationNames
+destination-tests hi l w x g ok =
+    (λ n. not (w n && eqb (x n) 0) || (ok ∙ (λ k. granted l (aluRegister (g k)))) n) ∙ by (isWritten hi && eqb (fieldOf hi 28 1) 0)
+  where
+    by : (t : Bool) → (not t || granted l (aluRegister (fieldOf hi 21 7))) ≡ allGranted l (cond t (aluRegister (fieldOf hi 21 7) ∷ []) [])
+    by true = sym (and-true (granted l (aluRegister (fieldOf hi 21 7))))
+    by false = refl
+
+module _ (lo hi : ℕ) where
+  pub field-tests : {p i z : ℕ} {a b d : Bool} → p ≡ fieldOf lo 29 2 → i ≡ fieldOf lo 26 3 → z ≡ fieldOf hi 18 3 → a ≡ badSource (source0Of lo) → b ≡ badSource (source1Of lo) → d ≡ badSource (thirdOf hi) → (eqb p 1 || (ltb 4 i || (ltb 5 z || (a || (b || d))))) ≡ badField lo hi
+  unfolding badField
+  field-tests p i z a b d = λ n. eqb (p n) 1 || (ltb 4 (i n) || (ltb 5 (z n) || (a n || (b n || (d ∙ third-bad hi) n))))
+
+  pub relative-tests : {x : ℕ} {a b d : Bool} → x ≡ fieldOf hi 28 1 → a ≡ isRelative (source0Of lo) → b ≡ isRelative (source1Of lo) → d ≡ isRelative (thirdOf hi) → (not (eqb x 0) || (a || (b || d))) ≡ hasRelative lo hi
+  unfolding hasRelative
+  relative-tests x a b d = λ n. not (eqb (x n) 0) || (a n || (b n || (d ∙ third-relative hi) n))
+
+  pub literal-tests : {a b d m r : ℕ} → a ≡ sourceLiterals (source0Of lo) → b ≡ sourceLiterals (source1Of lo) → m ≡ max a b → d ≡ sourceLiterals (thirdOf hi) → r ≡ max m d → r ≡ literals lo hi
   unfolding literals
-  literals-three h = rw h
-
-  pub literals-two : isOp3 hi ≡ false → max (sourceLiterals (source0Of lo)) (sourceLiterals (source1Of lo)) ≡ literals lo hi
-  unfolding literals
-  literals-two h = rw h (omega arith)
-
-  -- ---- rule 15
+  literal-tests a b m d r = r ∙ (λ n. max ((m ∙ (λ k. max (a k) (b k))) n) ((d ∙ third-literals hi) n))
 
   module _ (l : Limits) where
-    pub not-written : isWritten hi ≡ false → true ≡ allGranted l (destinationNames hi)
-    unfolding destinationNames
-    not-written a = rw a
-
-    pub written-relative : isWritten hi ≡ true → eqb (fieldOf hi 28 1) 0 ≡ false → true ≡ allGranted l (destinationNames hi)
-    unfolding destinationNames
-    written-relative a b = rw (a, b)
-
-    pub written-named : isWritten hi ≡ true → eqb (fieldOf hi 28 1) 0 ≡ true → granted l (aluRegister (fieldOf hi 21 7)) ≡ allGranted l (destinationNames hi)
-    unfolding destinationNames
-    written-named a b = rw (a, b) (sym (and-true (granted l (aluRegister (fieldOf hi 21 7)))))
-
-    pub refused-destination : allGranted l (destinationNames hi) ≡ false → false ≡ allGranted l (named lo hi)
+    pub operand-tests : {d a b e : Bool} → d ≡ allGranted l (destinationNames hi) → a ≡ allGranted l (namesOf (source0Of lo)) → b ≡ allGranted l (namesOf (source1Of lo)) → e ≡ allGranted l (namesOf (thirdOf hi)) → (d && (a && (b && e))) ≡ allGranted l (named lo hi)
     unfolding named
-    refused-destination a = sym (joined-refused l (destinationNames hi) _ a)
-
-    module _ (a : allGranted l (destinationNames hi) ≡ true) where
-      pub refused-source0 : allGranted l (namesOf (source0Of lo)) ≡ false → false ≡ allGranted l (named lo hi)
-      unfolding named
-      refused-source0 b = sym (joined-passed l (destinationNames hi) _ a ∙ joined-refused l (namesOf (source0Of lo)) _ b)
-
-      module _ (b : allGranted l (namesOf (source0Of lo)) ≡ true) where
-        pub refused-source1 : allGranted l (namesOf (source1Of lo)) ≡ false → false ≡ allGranted l (named lo hi)
-        unfolding named
-        refused-source1 d =
-            sym
-            (joined-passed l (destinationNames hi) _ a
-            ∙ joined-passed l (namesOf (source0Of lo)) _ b
-            ∙ joined-refused l (namesOf (source1Of lo)) _ d)
-
-        left-to-last : (x : List Name) → allGranted l (namesOf (source1Of lo)) ≡ true → cond (isOp3 hi) (namesOf (source2Of hi)) [] ≡ x → allGranted l x ≡ allGranted l (named lo hi)
-        unfolding named
-        left-to-last x d e =
-            sym
-            (joined-passed l (destinationNames hi) _ a
-            ∙ joined-passed l (namesOf (source0Of lo)) _ b
-            ∙ joined-passed l (namesOf (source1Of lo)) _ d
-            ∙ ap (allGranted l) e)
-
-        pub last-source : allGranted l (namesOf (source1Of lo)) ≡ true → isOp3 hi ≡ true → allGranted l (namesOf (source2Of hi)) ≡ allGranted l (named lo hi)
-        last-source d e = left-to-last (namesOf (source2Of hi)) d (rw e)
-
-        pub all-named : allGranted l (namesOf (source1Of lo)) ≡ true → isOp3 hi ≡ false → true ≡ allGranted l (named lo hi)
-        all-named d e = left-to-last [] d (rw e)
+    operand-tests d a b e =
+        (λ n. d n && (a n && (b n && (e ∙ (λ k. allGranted l (third-names hi k))) n)))
+        ∙ sym
+        (all-joined l (destinationNames hi) _
+        ∙ ap (λ (t : Bool). allGranted l (destinationNames hi) && t)
+        (all-joined l (namesOf (source0Of lo)) _
+        ∙ ap (λ (t : Bool). allGranted l (namesOf (source0Of lo)) && t) (all-joined l (namesOf (source1Of lo)) _)))

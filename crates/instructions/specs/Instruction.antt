@@ -34,6 +34,13 @@ source1Of lo = record { sel = fieldOf lo 13 9; rel = fieldOf lo 22 1; chan = fie
 abbrev pub source2Of : ℕ → Source
 source2Of hi = record { sel = fieldOf hi 0 9; rel = fieldOf hi 9 1; chan = fieldOf hi 10 2 }
 
+-- the third source, if the format has one. Where it has none, 248 (the constant 0.0) stands for it, of which no rule asks anything
+abbrev pub noSource : Source
+noSource = record { sel = 248; rel = 0; chan = 0 }
+
+unfoldable pub thirdOf : ℕ → Source
+thirdOf hi = cond (isOp3 hi) (source2Of hi) noSource
+
 -- the relative bit is set
 unfoldable pub isRelative : Source → Bool
 isRelative s = not (eqb (s .rel) 0)

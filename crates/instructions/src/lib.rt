@@ -1,12 +1,13 @@
 // What rules 10 to 15 ask of one ALU instruction by itself, from its two words.
 //
 // Each question is a function of the words, so that a caller reads an instruction's words once and asks what it needs; the compiler
-// shares the shifts and masks.
+// shares the shifts and masks. Nothing branches on what a pack holds, since no branch could be foreseen: tests are joined by | and &.
 use bits::field;
 use grants::Limits;
 use opcodes::alu::Class;
 ghost use mathlib.Core.Path.{_≡_};
 ghost use Prim.Native.Nat.{max};
+ghost use mathlib.Core.Bool.{cond};
 ghost use Rattle.grants.specs.Grants.{allGranted};
 ghost use Rattle.instructions.specs.Instruction as instruction;
 
@@ -60,17 +61,25 @@ fn source1(low: u32) -> Source
     }
 }
 
-fn source2(high: u32) -> Source
-    ensures { λ r. ⌜ r ≡ instruction.source2Of high ⌝ }
+fn chosen(first: bool, a: u32, b: u32) -> u32
+    ensures { λ r. ⌜ r ≡ cond first a b ⌝ }
 {
+    if first { a } else { b }
+}
+
+// Source 2 of an OP3, and what stands for it in an OP2.
+fn third_source(high: u32) -> Source
+    ensures { λ r. ⌜ r ≡ instruction.thirdOf high ⌝ }
+{
+    let op3 = is_op3(high);
     Source {
-        sel: field(high, 0, 9),
-        rel: field(high, 9, 1),
-        chan: field(high, 10, 2),
+        sel: chosen(op3, field(high, 0, 9), 248),
+        rel: chosen(op3, field(high, 9, 1), 0),
+        chan: chosen(op3, field(high, 10, 2), 0),
     }
 }
 
-fn larger(a: u32, b: u32) -> u32
+pub fn larger(a: u32, b: u32) -> u32
     ensures { λ r. ⌜ r ≡ max a b ⌝ }
 {
     if a < b { b } else { a }
@@ -96,116 +105,67 @@ pub fn literals_of(low: u32, high: u32) -> u32
     ensures { λ r. ⌜ r ≡ instruction.literals low high ⌝ }
 {
     let two = larger(source_literals(source0(low)), source_literals(source1(low)));
-    if is_op3(high) {
-        return larger(two, source_literals(source2(high)));
-    }
-    two
+    larger(two, source_literals(third_source(high)))
 }
 
 fn is_bad_source(s: Source) -> bool
     ensures { λ r. ⌜ r ≡ instruction.badSource s ⌝ }
 {
-    if s.sel < 192 {
-        return false;
-    }
-    if s.sel < 248 {
-        return true;
-    }
-    if s.sel < 256 {
-        return is_relative(s);
-    }
-    false
+    let reserved = (192 <= s.sel) & (s.sel < 248);
+    let special = (248 <= s.sel) & (s.sel < 256);
+    reserved | (special & is_relative(s))
 }
 
 // Rule 12.
 pub fn is_bad_field(low: u32, high: u32) -> bool
     ensures { λ r. ⌜ r ≡ instruction.badField low high ⌝ }
 {
-    if field(low, 29, 2) == 1 {
-        return true;
-    }
-    if 4 < field(low, 26, 3) {
-        return true;
-    }
-    if 5 < field(high, 18, 3) {
-        return true;
-    }
-    if is_bad_source(source0(low)) {
-        return true;
-    }
-    if is_bad_source(source1(low)) {
-        return true;
-    }
-    if is_op3(high) {
-        return is_bad_source(source2(high));
-    }
-    false
+    let predicate = field(low, 29, 2) == 1;
+    let index = 4 < field(low, 26, 3);
+    let swizzle = 5 < field(high, 18, 3);
+    let first = is_bad_source(source0(low));
+    let second = is_bad_source(source1(low));
+    let third = is_bad_source(third_source(high));
+    predicate | (index | (swizzle | (first | (second | third))))
 }
 
 // Whether any relative bit is set, which a MOVA's group must not have.
 pub fn has_relative(low: u32, high: u32) -> bool
     ensures { λ r. ⌜ r ≡ instruction.hasRelative low high ⌝ }
 {
-    if field(high, 28, 1) != 0 {
-        return true;
-    }
-    if is_relative(source0(low)) {
-        return true;
-    }
-    if is_relative(source1(low)) {
-        return true;
-    }
-    if is_op3(high) {
-        return is_relative(source2(high));
-    }
-    false
+    let destination = field(high, 28, 1) != 0;
+    let first = is_relative(source0(low));
+    let second = is_relative(source1(low));
+    let third = is_relative(third_source(high));
+    destination | (first | (second | third))
 }
 
 fn is_written(high: u32) -> bool
     ensures { λ r. ⌜ r ≡ instruction.isWritten high ⌝ }
 {
-    if is_op3(high) {
-        return true;
-    }
-    field(high, 4, 1) == 1
+    is_op3(high) | (field(high, 4, 1) == 1)
 }
 
 fn destination_granted(limits: Limits, high: u32) -> bool
     ensures { λ r. ⌜ r ≡ allGranted limits (instruction.destinationNames high) ⌝ }
 {
-    if !is_written(high) {
-        return true;
-    }
-    if field(high, 28, 1) != 0 {
-        return true;
-    }
-    grants::alu_register_granted(limits, field(high, 21, 7))
+    let named = is_written(high) & (field(high, 28, 1) == 0);
+    !named | grants::alu_register_granted(limits, field(high, 21, 7))
 }
 
 fn source_granted(limits: Limits, s: Source) -> bool
     ensures { λ r. ⌜ r ≡ allGranted limits (instruction.namesOf s) ⌝ }
 {
-    if is_relative(s) {
-        return true;
-    }
-    grants::source_granted(limits, s.sel)
+    is_relative(s) | grants::source_granted(limits, s.sel)
 }
 
 // Rule 15: destination, then sources.
 pub fn operands_granted(limits: Limits, low: u32, high: u32) -> bool
     ensures { λ r. ⌜ r ≡ allGranted limits (instruction.named low high) ⌝ }
 {
-    if !destination_granted(limits, high) {
-        return false;
-    }
-    if !source_granted(limits, source0(low)) {
-        return false;
-    }
-    if !source_granted(limits, source1(low)) {
-        return false;
-    }
-    if is_op3(high) {
-        return source_granted(limits, source2(high));
-    }
-    true
+    let destination = destination_granted(limits, high);
+    let first = source_granted(limits, source0(low));
+    let second = source_granted(limits, source1(low));
+    let third = source_granted(limits, third_source(high));
+    destination & (first & (second & third))
 }

@@ -9,13 +9,13 @@ returns : tie.Need-returns
 returns c =
     c .op3-class .ensures
     ∙ ap op3Class (c .before .field .ensures)
-    ∙ class-op3 0 _ (sym (c .before .before .before .is-op3 .ensures) ∙ c .before .before .if1 .taken)
+    ∙ class-op3 _ (sym (c .before .before .before .is-op3 .ensures) ∙ c .before .before .if1 .taken)
 
 returns-2 : tie.Need-returns-2
 returns-2 c =
     c .op2-class .ensures
     ∙ ap op2Class (c .before .field2 .ensures)
-    ∙ class-op2 0 _ (sym (c .before .before .before .is-op3 .ensures) ∙ c .before .before .if1 .left)
+    ∙ class-op2 _ (sym (c .before .before .before .is-op3 .ensures) ∙ c .before .before .if1 .left)
 
 pub class-of-spec : {M : Type 1} → statement M
 class-of-spec =

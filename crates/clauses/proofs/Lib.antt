@@ -1,0 +1,5 @@
+-- The laws that proofs cite, here and in the crates above.
+pub mod OfRead
+pub mod OfClause
+pub mod OfNames
+pub mod Examples

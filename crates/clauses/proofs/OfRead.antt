@@ -1,0 +1,121 @@
+-- One group, read instruction by instruction: its size, and where it lies. Assumes nothing.
+use Prim.Native.Nat.{ℕ, zero, suc, _+_, _-_, _*_, _≤_, _<_, _^_}
+use mathlib.Core.Path.{_≡_, refl, sym, ap, _∙_, subst}
+use mathlib.Core.Bool.{Bool, true, false, cond}
+use mathlib.Core.List.{List}
+use lib.ListN.{getD}
+use lib.Dec.{ltb, eqb}
+use borrow.Author.Tests.{lt-ltb, le-ltb, eq-eqb, ne-eqb, ltb-true}
+use native.Mathlib.Omega.{arith}
+use native.Mathlib.Numerals.{add-one}
+use Rattle.bits.specs.Fields.{fieldOf}
+use Rattle.grants.specs.declared.Limits.{Limits}
+use Rattle.groups.specs.declared.Seen.{Seen}
+use Rattle.groups.specs.Seen.{noneSeen, nextSeen, seenOf}
+use Rattle.groups.proofs.OfGroup.{seen-none, seen-next}
+use Rattle.clauses.specs.declared.Group.{Group}
+use Rattle.clauses.specs.Clause.{lowOf, highOf, isLast, sizeFrom, sizeOf}
+use Rattle.clauses.specs.Read.{groupOf, noGroup}
+
+-- the high word of the group's first instruction
+pub first-high : (w : List ℕ) (at : ℕ) → getD w (at + 1) 0 ≡ highOf w at 0
+unfolding highOf
+first-high w at = let e : at + 1 ≡ at + 2 * 0 + 1 = omega arith in ap (λ (k : ℕ). getD w k 0) e
+
+module _ (w : List ℕ) (at left : ℕ) where
+  -- one more word of the search
+  look : (j k : ℕ) → sizeFrom w at left j (suc k) ≡ cond (ltb j left) (cond (isLast (lowOf w at j)) (suc j) (sizeFrom w at left (suc j) k)) 0
+  unfolding sizeFrom
+  look j k = refl
+
+  left-over : (j : ℕ) → j < 5 → 5 - j ≡ suc (5 - (j + 1))
+  left-over j l = omega arith
+
+  size-short : (j : ℕ) → j < 5 → left ≤ j → sizeFrom w at left j (5 - j) ≡ 0
+  size-short j l m = rw (left-over j l, look j (5 - (j + 1)), le-ltb j left m)
+
+  size-here : (j : ℕ) → j < 5 → j < left → isLast (lowOf w at j) ≡ true → sizeFrom w at left j (5 - j) ≡ j + 1
+  size-here j l m e = rw (left-over j l, look j (5 - (j + 1)), lt-ltb j left m, e) (sym (add-one j))
+
+  size-next : (j : ℕ) → j < 5 → j < left → isLast (lowOf w at j) ≡ false → sizeFrom w at left j (5 - j) ≡ sizeFrom w at left (j + 1) (5 - (j + 1))
+  size-next j l m e = rw (left-over j l, look j (5 - (j + 1)), lt-ltb j left m, e, add-one j)
+
+  size-five : (j : ℕ) → 5 ≤ j → j ≤ 5 → sizeFrom w at left j (5 - j) ≡ 0
+  unfolding sizeFrom
+  size-five j l m = let e : j ≡ 5 = omega arith in rw e
+
+  -- a group has at most five instructions, all of them in the clause
+  size-in : (k j : ℕ) → (sizeFrom w at left j k ≤ j + k) × (sizeFrom w at left j k ≤ left)
+  unfolding sizeFrom
+  size-in zero j = (omega arith, omega arith)
+  size-in (suc k) j = by (ltb j left) refl (isLast (lowOf w at j)) (size-in k (suc j))
+    where
+      by : (b : Bool) → ltb j left ≡ b → (d : Bool) → (sizeFrom w at left (suc j) k ≤ suc j + k) × (sizeFrom w at left (suc j) k ≤ left)
+          → (cond b (cond d (suc j) (sizeFrom w at left (suc j) k)) 0 ≤ j + suc k) × (cond b (cond d (suc j) (sizeFrom w at left (suc j) k)) 0 ≤ left)
+      by false e d r = (omega arith, omega arith)
+      by true e true r = (omega arith, omega (arith, ltb-true j left e))
+      by true e false r = (omega (arith, r .0), r .1)
+
+  pub size-few : (sizeOf w at left ≤ 5) × (sizeOf w at left ≤ left)
+  unfolding sizeOf
+  size-few = let r = size-in 5 0 in (omega (arith, r .0), r .1)
+
+  -- ---- the loop over the group's instructions
+
+  module _ (limits : Limits) where
+    -- j instructions are read, and none of them is the last
+    pub record Reading (first : ℕ) (seen : Seen) (j : ℕ) : Type 0 where
+      pub few : j ≤ 5
+      pub first-is : first ≡ highOf w at 0
+      pub seen-is : seen ≡ seenOf limits (lowOf w at) (highOf w at) j
+      pub size-is : sizeOf w at left ≡ sizeFrom w at left j (5 - j)
+
+    pub reading-none : {first : ℕ} {seen : Seen} → first ≡ highOf w at 0 → seen ≡ noneSeen → Reading first seen 0
+    unfolding sizeOf
+    reading-none e f =
+        record { few = omega arith; first-is = e; seen-is = f ∙ seen-none limits (lowOf w at) (highOf w at); size-is = refl }
+
+    none-is : {r : Group} → r ≡ noGroup → sizeOf w at left ≡ 0 → r ≡ groupOf limits w at left
+    unfolding groupOf
+    none-is e f =
+        e
+        ∙ (λ i. record { size = sym f i; seen = (seen-none limits (lowOf w at) (highOf w at) ∙ (λ n. seenOf limits (lowOf w at) (highOf w at) (sym f n))) i })
+
+    module _ {first : ℕ} {seen : Seen} {j : ℕ} (r : Reading first seen j) where
+      pub reading-short : {g : Group} → j < 5 → left ≤ j → g ≡ noGroup → g ≡ groupOf limits w at left
+      reading-short l m e = none-is e (r .size-is ∙ size-short j l m)
+
+      pub reading-five : {g : Group} → 5 ≤ j → g ≡ noGroup → g ≡ groupOf limits w at left
+      reading-five l e = none-is e (r .size-is ∙ size-five j l (r .few))
+
+      module _ {low high : ℕ} {after : Seen} (l : j < 5) (m : j < left) (p : low ≡ lowOf w at j) (q : high ≡ highOf w at j) (a : after ≡ nextSeen limits j first low high seen) where
+        pub seen-more : after ≡ seenOf limits (lowOf w at) (highOf w at) (j + 1)
+        seen-more =
+            a
+            ∙ (λ i. nextSeen limits j (r .first-is i) (p i) (q i) (r .seen-is i))
+            ∙ seen-next limits (lowOf w at) (highOf w at) j
+            ∙ ap (seenOf limits (lowOf w at) (highOf w at)) (sym (add-one j))
+
+        module _ {last : ℕ} (f : last ≡ fieldOf low 31 1) where
+          is-last : (b : Bool) → eqb last 1 ≡ b → isLast (lowOf w at j) ≡ b
+          unfolding isLast
+          is-last b h = (λ i. eqb (fieldOf (sym p i) 31 1) 1) ∙ ap (λ (n : ℕ). eqb n 1) (sym f) ∙ h
+
+          pub reading-last : last ≡ 1 → record { size = j + 1; seen = after } ≡ groupOf limits w at left
+          unfolding groupOf
+          reading-last h =
+              let size : sizeOf w at left ≡ j + 1 = r .size-is ∙ size-here j l m (is-last true (eq-eqb last 1 h)) in
+              λ i.
+              record {
+                size = sym size i;
+                seen = (seen-more ∙ (λ n. seenOf limits (lowOf w at) (highOf w at) (sym size n))) i;
+              }
+
+          pub reading-next : (last ≡ 1 → ⊥) → Reading first after (j + 1)
+          reading-next h =
+              record {
+                few = omega arith;
+                first-is = r .first-is;
+                seen-is = seen-more;
+                size-is = r .size-is ∙ size-next j l m (is-last false (ne-eqb last 1 h));
+              }

@@ -1,0 +1,139 @@
+// Control flow: what a pair of the section does to the stack, and rules 16 to 19 of document 01, "The walk".
+//
+// The first pass keeps the stack before each place as two numbers, a row: under a loop's frame L(q) always lies the stack that
+// stood at q, so the innermost loop and the marks above it say the whole stack, and two stacks are the same exactly if their
+// rows are. Popping a loop reads the row of its start. specs/Flow.antt has the stacks as lists of frames; proofs/OfFollow.antt
+// and proofs/OfSecond.antt say that the rows are as good.
+//
+// Every place here is a control-flow quadword, counted from 0.
+use bits::field;
+use checks::Place;
+use checks::Rule;
+use checks::Verdict;
+use control::Control;
+use units::Quadwords;
+use units::Slots;
+ghost use mathlib.Core.Path.{_≡_};
+ghost use Prim.Native.Nat.{_-_};
+ghost use Rattle.checks.specs.Checks.{firstBroken, below};
+ghost use Rattle.flow.specs.Pairs.{flowOf, flowAt};
+ghost use Rattle.flow.specs.Rows.{followed, rowChecks};
+
+mod rows;
+mod stacks;
+mod steps;
+mod targets;
+
+// What a pair does to the stack and where it goes; `pops` is POP_COUNT, `target` is ADDR.
+pub enum Flow {
+    Still,
+    PushMark,
+    PopMarks(usize),
+    Jump { pops: usize, target: Quadwords },
+    LoopBreak { pops: usize, target: Quadwords },
+    LoopContinue { pops: usize, target: Quadwords },
+    Else { pops: usize, target: Quadwords },
+    Pop { pops: usize, target: Quadwords },
+    LoopStart(Quadwords),
+    LoopEnd(Quadwords),
+}
+
+// A stack: `marks` frames M over the frame of the loop that starts before `top` (over nothing where `top` is 0), `depth` frames
+// in all.
+pub struct Frames {
+    pub top: usize,
+    pub marks: usize,
+    pub depth: usize,
+}
+
+// What the first pass finds at a place: a frame is missing, there is no room for one more, or the stack behind it.
+pub enum Moved {
+    Lacks,
+    TooDeep,
+    To(Frames),
+}
+
+// What a pair does, by what it is and by its words.
+pub fn flow_of(control: Control, low: u32, high: u32) -> Flow
+    ensures { λ r. ⌜ r ≡ flowOf control low high ⌝ }
+{
+    let pops = field(high, 0, 3) as usize;
+    let target = Quadwords(low as usize);
+    match control {
+        Control::NotTaken => Flow::Still,
+        Control::Nop => Flow::Still,
+        Control::Tex => Flow::Still,
+        Control::Vtx => Flow::Still,
+        Control::VtxTc => Flow::Still,
+        Control::LoopEnd => Flow::LoopEnd(target),
+        Control::LoopStart => Flow::LoopStart(target),
+        Control::LoopContinue => Flow::LoopContinue { pops, target },
+        Control::LoopBreak => Flow::LoopBreak { pops, target },
+        Control::Jump => Flow::Jump { pops, target },
+        Control::Else => Flow::Else { pops, target },
+        Control::Pop => Flow::Pop { pops, target },
+        Control::Export => Flow::Still,
+        Control::ExportDone => Flow::Still,
+        Control::Alu => Flow::Still,
+        Control::PushBefore => Flow::PushMark,
+        Control::PopAfter => Flow::PopMarks(1),
+        Control::Pop2After => Flow::PopMarks(2),
+    }
+}
+
+// The first pass at a place: the step on "no", and whether either answer lacks a frame. `behind` is the next place, `s` the stack
+// before this one, and the rows are those of the places before.
+pub fn follow(
+    flow: Flow,
+    behind: usize,
+    limit: usize,
+    s: Frames,
+    tops: &[usize],
+    marks: &[usize],
+) -> Moved
+    ensures { λ r. ⌜ r ≡ followed limit flow behind s (now (tops .entry)) (now (marks .entry)) ⌝ }
+{
+    match flow {
+        Flow::Still => Moved::To(s),
+        Flow::PushMark => steps::push_mark(limit, s),
+        Flow::PopMarks(pops) => steps::pop_marks(pops, s),
+        Flow::Jump { pops, target: _ } => steps::need_marks(pops, s),
+        Flow::LoopBreak { pops, target: _ } => steps::need_marks(pops, s),
+        Flow::LoopContinue { pops, target: _ } => steps::need_marks(pops, s),
+        Flow::Else { pops, target: _ } => steps::need_top_mark(pops, s),
+        Flow::Pop { pops, target: _ } => steps::pop_marks(pops, s),
+        Flow::LoopStart(_) => steps::enter_loop(limit, behind, s),
+        Flow::LoopEnd(_) => steps::end_loop(s, tops, marks),
+    }
+}
+
+// The second pass over a section of so many pairs, whose rows the first pass has filled: the first broken check of rules 18 and
+// 19.
+pub fn second_pass(words: &[u32], pairs: usize, tops: &[usize], marks: &[usize]) -> Verdict
+    ensures { λ r. ⌜ r ≡ firstBroken (below (rowChecks (flowAt (now (words .entry))) (pairs - 1) (now (tops .entry)) (now (marks .entry))) pairs) ⌝ }
+{
+    if pairs == 0 {
+        return Verdict::Accepted;
+    }
+    let end = pairs - 1;
+    let mut p = 0;
+    while p < pairs {
+        let flow = targets::flow_at(words, p);
+        if targets::is_wrong(words, flow, end, p) {
+            return Verdict::Refused {
+                rule: Rule::WrongTarget,
+                place: Place::Quadword(Quadwords(p)),
+                slot: Slots(0),
+            };
+        }
+        if stacks::differ(words, flow, p, tops, marks) {
+            return Verdict::Refused {
+                rule: Rule::StacksDiffer,
+                place: Place::Quadword(Quadwords(p)),
+                slot: Slots(0),
+            };
+        }
+        p += 1;
+    }
+    Verdict::Accepted
+}

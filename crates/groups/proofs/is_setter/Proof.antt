@@ -1,0 +1,29 @@
+-- `groups::is_setter` meets its contract, variant by variant. Assumes nothing.
+use borrow.Author.Needs.{needs}
+use mathlib.Core.Path.{_≡_, sym, ap}
+use Rattle.groups.specs.Group.{isSetter}
+use Rattle.groups.proofs.is_setter.Statement.{statement}
+use Rattle.groups.proofs.is_setter.Tie as tie
+
+returns : tie.Need-returns
+unfolding isSetter
+returns c = ap isSetter (sym (c .enum-told .given .1))
+
+returns-2 : tie.Need-returns-2
+unfolding isSetter
+returns-2 c = ap isSetter (sym (c .enum-told2 .given .1))
+
+returns-3 : tie.Need-returns-3
+unfolding isSetter
+returns-3 c = ap isSetter (sym (c .enum-told3 .given .1))
+
+returns-4 : tie.Need-returns-4
+unfolding isSetter
+returns-4 c = ap isSetter (sym (c .enum-told4 .given .1))
+
+returns-5 : tie.Need-returns-5
+unfolding isSetter
+returns-5 c = ap isSetter (sym (c .enum-told5 .given .1))
+
+pub is-setter-spec : {M : Type 1} → statement M
+is-setter-spec = tie.close (tie.spec (λ c. search needs) (λ c. search needs) (λ c. search needs) (λ c. search needs) (λ c. search needs) returns returns-2 returns-3 returns-4 returns-5)
