@@ -96,16 +96,18 @@ abbrev pub firstNot : List (ℕ × Bool) → CardTest
 firstNot [] = test.InRange
 firstNot (t ∷ ts) = cond (t .1) (firstNot ts) (test.BadLine (t .0))
 
--- the figures held to the same table; kind and build are always one of those that it allows
-unfoldable pub testOf : Card → CardTest
-testOf card =
-    firstNot
-    ((3, gprsAllowed (card .gprs))
+-- the figures held to the same table, line by line; kind and build are always one of those that it allows
+abbrev pub figureTests : Card → List (ℕ × Bool)
+figureTests card =
+    (3, gprsAllowed (card .gprs))
     ∷ (4, tempsAllowed (card .gprs) (card .temps))
     ∷ (5, constsAllowed (card .consts))
     ∷ (6, stackAllowed (card .stack))
     ∷ (7, quadsAllowed (card .quads .0))
-    ∷ [])
+    ∷ []
+
+unfoldable pub testOf : Card → CardTest
+testOf card = firstNot (figureTests card)
 
 -- ---- what the laws of proofs/OfCard.antt say of a card
 

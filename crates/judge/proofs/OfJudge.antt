@@ -1,0 +1,154 @@
+-- The judgement, from what the judge's parts answer. Assumes nothing.
+use mathlib.Core.Path.{_≡_, refl, sym, ap, _∙_, subst}
+use mathlib.Core.Bool.{Bool, true, false, cond, not}
+use mathlib.Core.List.{List, [], _∷_, _++_}
+use Prim.Native.Nat.{ℕ, suc, _+_, _-_}
+use native.Mathlib.Omega.{arith}
+use native.Mathlib.Numerals.{add-one}
+use Rattle.units.specs.declared.Quadwords.{Quadwords}
+use Rattle.units.specs.declared.Slots.{Slots}
+use Rattle.units.specs.Units.{quadwords, slots, isAtMost}
+use Rattle.checks.specs.declared.Rule.{Rule}
+use Rattle.checks.specs.declared.Rule.the-variants.{CardLine, PackLength, NoEnd}
+use Rattle.checks.specs.declared.Place.{Place}
+use Rattle.checks.specs.declared.Place.the-variants.{Whole, Line}
+use Rattle.checks.specs.declared.Verdict.{Verdict}
+use Rattle.checks.specs.declared.Verdict.the-variants.{Accepted, Refused}
+use Rattle.checks.specs.Checks.{check, firstBroken, below, Unbroken, BrokenFirst}
+use Rattle.checks.proofs.OfChecks.{hit, miss, joined-clean, joined-refused, accepted-exactly-if, refused-exactly-if}
+use mathlib.Core.Logic.{_↔_}
+use Rattle.card.specs.declared.Card.{Card}
+use Rattle.card.specs.declared.CardTest.{CardTest}
+use Rattle.card.specs.declared.CardTest.the-variants as test
+use Rattle.card.specs.declared.CardRead.{CardRead}
+use Rattle.card.specs.declared.CardRead.the-variants as read
+use Rattle.card.specs.Card.{firstNot, figureTests, testOf, cardOf}
+use Rattle.card.proofs.OfCard.{range-figures}
+use Rattle.control.specs.Control.{searched, endOf}
+use Rattle.control.specs.Rules.{badLength, noEnd}
+use Rattle.control.proofs.OfEnd.{ends-at}
+use Rattle.flow.specs.Pairs.{flowAt}
+use Rattle.flow.specs.Held.{Recorded}
+use Rattle.flow.specs.Rows.{rowChecks}
+use Rattle.flow.specs.Rules.{secondChecks}
+use Rattle.flow.proofs.OfSecond.{second-pass-is}
+use Rattle.judge.specs.Judge.{lineChecks, firstChecks, passes, checks, judgement, readJudgement, judgementOfBytes}
+use Rattle.judge.specs.Safe.{Safely, SafelyRead}
+use Rattle.judge.specs.Passing.{InWords}
+use Rattle.judge.proofs.OfSafe.{accepted-safely}
+
+-- ---- demand 2, as laws about the judgement
+
+-- accepted exactly if no rule is broken
+pub judged-accepted : (card : Card) (w : List ℕ) → judgement card w ≡ Accepted ↔ Unbroken (checks card w)
+unfolding judgement
+judged-accepted card w = accepted-exactly-if (checks card w)
+
+-- a refusal is the first broken check of the list
+pub judged-refused : (card : Card) (w : List ℕ) (r : Rule) (p : Place) (s : Slots) → judgement card w ≡ Refused r p s ↔ BrokenFirst (checks card w) r p s
+unfolding judgement
+judged-refused card w r p s = refused-exactly-if (checks card w) r p s
+
+-- ---- the card's lines
+
+abbrev lineVerdict : CardTest → Verdict
+lineVerdict test.InRange = Accepted
+lineVerdict (test.BadLine n) = Refused CardLine (Line n) (slots 0)
+
+by-lines : (ts : List (ℕ × Bool)) → firstBroken (lineChecks ts) ≡ lineVerdict (firstNot ts)
+unfolding firstBroken lineChecks
+by-lines [] = refl
+by-lines (t ∷ ts) = by (t .1) (by-lines ts)
+  where
+    by : (b : Bool) → firstBroken (lineChecks ts) ≡ lineVerdict (firstNot ts)
+        → cond (not b) (Refused CardLine (Line (t .0)) (slots 0)) (firstBroken (lineChecks ts)) ≡ lineVerdict (cond b (firstNot ts) (test.BadLine (t .0)))
+    by true h = h
+    by false h = refl
+
+lines-are : (card : Card) → firstBroken (lineChecks (figureTests card)) ≡ lineVerdict (testOf card)
+unfolding testOf
+lines-are card = by-lines (figureTests card)
+
+-- ---- the judge's answers
+
+never-accepted : {r : Rule} {p : Place} {s : Slots} → Refused r p s ≡ Accepted → ⊥
+never-accepted h = let z : _≡_ {A = ℕ} 0 1 = cc in omega arith
+
+-- both clauses of the judge's contract
+abbrev Meets : Card → List ℕ → Verdict → Type 0
+Meets card w v = (v ≡ judgement card w) × (v ≡ Accepted → Safely card w)
+
+refuses : {card : Card} {w : List ℕ} {v : Verdict} {r : Rule} {p : Place} {s : Slots} → v ≡ Refused r p s → judgement card w ≡ Refused r p s → Meets card w v
+refuses e h = (e ∙ sym h, λ a. absurd (never-accepted (sym e ∙ a)))
+
+module _ (card : Card) (w : List ℕ) {t : CardTest} (e : t ≡ testOf card) where
+  pub bad-card : {n : ℕ} → t ≡ test.BadLine n → Meets card w (Refused CardLine (Line n) (slots 0))
+  unfolding judgement checks
+  bad-card h =
+      refuses refl
+      (joined-refused (lineChecks (figureTests card)) _ (lines-are card ∙ ap lineVerdict (sym e ∙ h)))
+
+  module _ (h : t ≡ test.InRange) where
+    behind-card : judgement card w ≡ firstBroken (check PackLength Whole (slots 0) (badLength w (card .quads)) ∷ check NoEnd Whole (slots 0) (noEnd w) ∷ passes card w (endOf w))
+    unfolding judgement checks
+    behind-card = joined-clean (lineChecks (figureTests card)) _ (lines-are card ∙ ap lineVerdict (sym e ∙ h))
+
+    module _ {b : Bool} (f : b ≡ badLength w (card .quads)) where
+      pub bad-length : {v : Verdict} → b ≡ true → v ≡ Refused PackLength Whole (slots 0) → Meets card w v
+      bad-length k q = refuses q (behind-card ∙ hit (check PackLength Whole (slots 0) (badLength w (card .quads))) _ (sym f ∙ k))
+
+      module _ (k : b ≡ false) {s z : Quadwords} (p : s ≡ quadwords (searched w)) (q : z ≡ quadwords (endOf w)) {d : Bool} (r : d ≡ isAtMost s z) where
+        no-end-is : (x : Bool) → d ≡ x → noEnd w ≡ x
+        unfolding noEnd
+        no-end-is x y = (λ i. isAtMost (sym p i) (sym q i)) ∙ sym r ∙ y
+
+        past-length : judgement card w ≡ firstBroken (check NoEnd Whole (slots 0) (noEnd w) ∷ passes card w (endOf w))
+        past-length = behind-card ∙ miss (check PackLength Whole (slots 0) (badLength w (card .quads))) _ (sym f ∙ k)
+
+        pub no-end : {v : Verdict} → d ≡ true → v ≡ Refused NoEnd Whole (slots 0) → Meets card w v
+        no-end x y = refuses y (past-length ∙ hit (check NoEnd Whole (slots 0) (noEnd w)) _ (no-end-is true x))
+
+        module _ (x : d ≡ false) where
+          end-is : endOf w ≡ z .0
+          end-is = ap (λ (y : Quadwords). y .0) (sym q)
+
+          pub in-words : InWords w (z .0)
+          in-words =
+              let y = ends-at w (no-end-is false x) in
+              record { in-buffer = omega (arith, y .in-buffer, end-is); among-512 = omega (arith, y .among-512, end-is) }
+
+          pub by-passes : {v : Verdict} → v ≡ firstBroken (passes card w (z .0)) → Meets card w v
+          by-passes g =
+              let y = g ∙ sym (past-length ∙ miss (check NoEnd Whole (slots 0) (noEnd w)) _ (no-end-is false x) ∙ ap (λ (n : ℕ). firstBroken (passes card w n)) end-is) in
+              (y, λ a. accepted-safely card w (range-figures card (sym e ∙ h)) (sym y ∙ a))
+
+-- ---- both passes
+
+module _ (card : Card) (w : List ℕ) (e : ℕ) {v : Verdict} (f : v ≡ firstBroken (below (firstChecks card w e) (suc e))) where
+  pub in-first : {r : Rule} {p : Place} {s : Slots} → v ≡ Refused r p s → Refused r p s ≡ firstBroken (passes card w e)
+  unfolding passes
+  in-first q = sym (joined-refused (below (firstChecks card w e) (suc e)) (below (secondChecks e (flowAt w)) (suc e)) (sym f ∙ q))
+
+  pub in-second : {u : Verdict} (tops marks : List ℕ) → v ≡ Accepted → Recorded (flowAt w) (suc e) tops marks → u ≡ firstBroken (below (rowChecks (flowAt w) (e + 1 - 1) tops marks) (e + 1)) → u ≡ firstBroken (passes card w e)
+  unfolding passes
+  in-second {u} tops marks q r g =
+      second-pass-is (flowAt w) e (e + 1) tops marks u (add-one e) r g
+      ∙ sym (joined-clean (below (firstChecks card w e) (suc e)) (below (secondChecks e (flowAt w)) (suc e)) (sym f ∙ q))
+
+-- ---- a card in bytes
+
+module _ (bytes w : List ℕ) {k : CardRead} (e : k ≡ cardOf bytes) where
+  same-card : {a b : Card} {n m : ℕ} → read.Whole a n ≡ read.Whole b m → a ≡ b
+  same-card h = cc
+
+  pub by-card : {card : Card} {n : ℕ} {v : Verdict} → k ≡ read.Whole card n → v ≡ judgement card w → (v ≡ Accepted → Safely card w) → (v ≡ judgementOfBytes bytes w) × (v ≡ Accepted → SafelyRead bytes w)
+  unfolding judgementOfBytes
+  by-card {card} {n} h f g =
+      (f ∙ ap (λ (x : CardRead). readJudgement x w) (sym h ∙ e), λ a c m q. subst-safely (same-card (sym h ∙ e ∙ q)) (g a))
+    where
+      subst-safely : {a b : Card} → a ≡ b → Safely a w → Safely b w
+      subst-safely p s = subst (λ (x : Card). Safely x w) p s
+
+  pub by-line : {n : ℕ} → k ≡ read.BadLine n → (Refused CardLine (Line n) (slots 0) ≡ judgementOfBytes bytes w) × (Refused CardLine (Line n) (slots 0) ≡ Accepted → SafelyRead bytes w)
+  unfolding judgementOfBytes
+  by-line h = (ap (λ (x : CardRead). readJudgement x w) (sym h ∙ e), λ a. absurd (never-accepted a))

@@ -1,0 +1,171 @@
+-- Demand 3: the walk of an accepted pack, along any list of answers, is safe. The flow of control is `flow`'s part; here is what lies at
+-- each place of the section. Assumes nothing.
+use mathlib.Core.Path.{_≡_, refl, sym, ap, _∙_, subst}
+use mathlib.Core.Bool.{Bool, true, false, not, _||_, false≢true}
+use mathlib.Core.List.{List, [], _∷_, _++_, List·Memᴰ, List·Memᴰ·head, List·Memᴰ·tail, List·Memᴰ·not-nil, List·Memᴰ·cases-cons}
+use mathlib.Core.Logic.{_⊎_, inl, inr, ⊎-elim}
+use Prim.Native.Nat.{ℕ, zero, suc, _+_, _-_, _*_, _≤_, _<_, _^_, min}
+use native.Mathlib.Omega.{arith}
+use native.Mathlib.Nat.{le-refl, le-step}
+use lib.ListN.{length}
+use lib.Dec.{ltb, leb}
+use borrow.Author.Tests.{ltb-true, leb-true, le-leb, not-false}
+use Rattle.units.specs.declared.Quadwords.{Quadwords}
+use Rattle.units.specs.Units.{quadwords, slots, slotsLength, fetchesLength, rangeEnd, isBelow, isAtMost}
+use Rattle.checks.specs.declared.Rule.the-variants.{PackLength, NoEnd}
+use Rattle.checks.specs.declared.Verdict.the-variants.{Accepted}
+use Rattle.checks.specs.Checks.{check, firstBroken, below}
+use Rattle.checks.proofs.OfChecks.{first-clean, rest-clean, left-clean, right-clean, below-each}
+use Rattle.card.specs.declared.Card.{Card}
+use Rattle.card.specs.Card.{figureTests, Ranges}
+use Rattle.grants.specs.Grants.{Name, granted}
+use Rattle.fetches.specs.Fetches as fetches
+use Rattle.fetches.proofs.OfClause as of-fetches
+use Rattle.clauses.specs.Clause as alu
+use Rattle.clauses.proofs.OfNames as of-alu
+use Rattle.control.specs.declared.Control.{Control}
+use Rattle.control.specs.declared.Clause.{Clause}
+use Rattle.control.specs.declared.Clause.the-variants.{NoClause, AluClause, FetchClause}
+use Rattle.control.specs.Control.{lowAt, highAt, controlAt, endOf}
+use Rattle.control.specs.Rules.{badLength, noEnd, clauseOf, outside, badRange, badExport, exportNames}
+use Rattle.control.proofs.OfRules.{length-right, each-export-granted}
+use Rattle.flow.specs.Pairs.{flowAt}
+use Rattle.flow.specs.Rules.{stackChecks, secondChecks}
+use Rattle.flow.specs.Walk.{State, start, walk, Sound}
+use Rattle.flow.proofs.OfWalk.{Clean, clean-passes, walk-sound}
+use Rattle.judge.specs.Judge.{lineChecks, limitsOf, isPushBefore, fetchKind, clauseChecks, pairChecks, firstChecks, passes, checks, judgement}
+use Rattle.judge.specs.Safe.{clauseAt, LiesBehind, namesBelow, namesOfEach, clauseNames, namesAt, Safe, Safely}
+
+-- ---- a name in a list of names
+
+in-joined : {x : Name} (a b : List Name) → List·Memᴰ x (a ++ b) → List·Memᴰ x a ⊎ List·Memᴰ x b
+in-joined [] b m = inr m
+in-joined (n ∷ a) b m =
+    ⊎-elim (λ e. inl (List·Memᴰ·head e)) (λ t. ⊎-elim (λ l. inl (List·Memᴰ·tail l)) (λ r. inr r) (in-joined a b t)) (List·Memᴰ·cases-cons m)
+
+module _ {P : Name → Type 0} where
+  each-below : (f : ℕ → List Name) (n : ℕ) → ((i : ℕ) → i < n → (x : Name) → List·Memᴰ x (f i) → P x) → (x : Name) → List·Memᴰ x (namesBelow f n) → P x
+  unfolding namesBelow
+  each-below f zero h x m = absurd (List·Memᴰ·not-nil m)
+  each-below f (suc n) h x m =
+      ⊎-elim (λ a. each-below f n (λ i l. h i (le-step l)) x a) (λ b. h n (le-refl (suc n)) x b) (in-joined (namesBelow f n) (f n) m)
+
+  each-of : (f : ℕ → List Name) (gs : List ℕ) → ((g : ℕ) → List·Memᴰ g gs → (x : Name) → List·Memᴰ x (f g) → P x) → (x : Name) → List·Memᴰ x (namesOfEach f gs) → P x
+  unfolding namesOfEach
+  each-of f [] h x m = absurd (List·Memᴰ·not-nil m)
+  each-of f (g ∷ gs) h x m =
+      ⊎-elim (λ a. h g (List·Memᴰ·head refl) x a) (λ b. each-of f gs (λ k t. h k (List·Memᴰ·tail t)) x b) (in-joined (f g) (namesOfEach f gs) m)
+
+-- ---- a clause that rule 6 lets through
+
+neither : (a b : Bool) → (a || b) ≡ false → (a ≡ false) × (b ≡ false)
+neither true b h = absurd (false≢true (sym h))
+neither false b h = (refl, h)
+
+module _ (e : ℕ) (quads : Quadwords) (few : quads .0 ≤ 8192) where
+  -- quads is small, so a sum that was cut short is not within it
+  reaches : (s l : Quadwords) → outside (quadwords e) quads s l ≡ false → (e < s .0) × (s .0 + l .0 ≤ quads .0)
+  unfolding outside
+  reaches s l h =
+      let k = neither (not (isBelow (quadwords e) s)) (not (isAtMost (rangeEnd s l) quads)) h in
+      let a = ltb-true e (s .0) (not-false _ (k .0)) in
+      let b : min (s .0 + l .0) (2 ^ 64 - 1) ≤ quads .0 = leb-true _ (quads .0) (not-false _ (k .1)) in
+      (a, omega (arith, b))
+
+  pub lies-behind : (words : ℕ) → words ≡ 2 * quads .0 → (k : Clause) → badRange (quadwords e) quads k ≡ false → LiesBehind e words k
+  unfolding badRange
+  lies-behind words q NoClause h = tt
+  lies-behind words q (AluClause s n) h = let r = reaches s (slotsLength n) h in (r .0, omega (arith, r .1))
+  lies-behind words q (FetchClause s n) h =
+      let r = reaches s (fetchesLength n) h in
+      let b : s .0 + min (2 * n .0) (2 ^ 64 - 1) ≤ quads .0 = r .1 in
+      (r .0, omega (arith, b))
+
+-- ---- a place of the section whose checks are unbroken
+
+module _ (card : Card) (w : List ℕ) (e : ℕ) (few : card .quads .0 ≤ 8192) (whole : length w ≡ 2 * card .quads .0) (p : ℕ) (clean : firstBroken (pairChecks card w (quadwords e) (quadwords p) (controlAt w p) (lowAt w p) (highAt w p)) ≡ Accepted) where
+  pub place-behind : LiesBehind e (length w) (clauseAt w p)
+  unfolding pairChecks
+  place-behind =
+      lies-behind e (card .quads) few (length w) whole (clauseAt w p)
+      (first-clean _ _ (rest-clean _ _ (rest-clean _ _ clean)))
+
+  exports-clean : badExport (controlAt w p) (card .kind) (card .gprs) (lowAt w p) (highAt w p) ≡ false
+  unfolding pairChecks
+  exports-clean = first-clean _ _ (rest-clean _ _ (rest-clean _ _ (rest-clean _ _ clean)))
+
+  clause-clean : firstBroken (clauseChecks card w (quadwords p) (controlAt w p) (lowAt w p) (highAt w p) (clauseAt w p)) ≡ Accepted
+  unfolding pairChecks
+  clause-clean = rest-clean _ _ (rest-clean _ _ (rest-clean _ _ (rest-clean _ _ clean)))
+
+  in-clause : (k : Clause) → LiesBehind e (length w) k → firstBroken (clauseChecks card w (quadwords p) (controlAt w p) (lowAt w p) (highAt w p) k) ≡ Accepted → (x : Name) → List·Memᴰ x (clauseNames w (controlAt w p) k) → granted (limitsOf card (lowAt w p) (highAt w p)) x ≡ true
+  unfolding clauseNames clauseChecks alu.insideBuffer fetches.insideBuffer
+  in-clause NoClause l h = λ x m. absurd (List·Memᴰ·not-nil m)
+  in-clause (AluClause s n) l h =
+      each-of (λ g. namesBelow (alu.namedAt w s g) (alu.sizeAt w s (n .0) g)) (alu.groupsOf w (2 * s .0) (n .0))
+      (λ g t.
+      each-below (alu.namedAt w s g) (alu.sizeAt w s (n .0) g)
+      (of-alu.accepted-granted (card .kind) (isPushBefore (controlAt w p)) (limitsOf card (lowAt w p) (highAt w p)) w (quadwords p) s n
+      (le-leb (2 * s .0 + 2 * n .0) (length w) (omega (arith, l .1))) h g t))
+  in-clause (FetchClause s n) l h =
+      each-below (fetches.namedAt (fetchKind (controlAt w p)) w s) (n .0)
+      (of-fetches.accepted-granted (fetchKind (controlAt w p)) (limitsOf card (lowAt w p) (highAt w p)) w (quadwords p) s n
+      (le-leb (2 * s .0 + 4 * n .0) (length w) (omega (arith, l .1))) h)
+
+  pub place-granted : (x : Name) → List·Memᴰ x (namesAt w p) → granted (limitsOf card (lowAt w p) (highAt w p)) x ≡ true
+  unfolding namesAt
+  place-granted x m =
+      ⊎-elim
+      (each-export-granted (controlAt w p) (card .kind) (limitsOf card (lowAt w p) (highAt w p)) (card .gprs) (lowAt w p) (highAt w p) refl exports-clean x)
+      (in-clause (clauseAt w p) place-behind clause-clean x)
+      (in-joined (exportNames (controlAt w p) (lowAt w p) (highAt w p)) (clauseNames w (controlAt w p) (clauseAt w p)) m)
+
+-- ---- the walk
+
+-- what an accepted pack's checks say
+record Judged (card : Card) (w : List ℕ) : Type 0 where
+  whole : length w ≡ 2 * card .quads .0
+  first : (p : ℕ) → p ≤ endOf w → firstBroken (firstChecks card w (endOf w) p) ≡ Accepted
+  second : firstBroken (below (secondChecks (endOf w) (flowAt w)) (suc (endOf w))) ≡ Accepted
+
+judged : (card : Card) (w : List ℕ) → judgement card w ≡ Accepted → Judged card w
+unfolding judgement checks passes
+judged card w h =
+    let rest = right-clean (lineChecks (figureTests card)) _ h in
+    let both = rest-clean _ _ (rest-clean _ _ rest) in
+    let e : ℕ = endOf w in
+    record {
+      whole = length-right w (card .quads) (first-clean _ _ rest);
+      first = λ p l. below-each (firstChecks card w e) (suc e) p (left-clean (below (firstChecks card w e) (suc e)) _ both) (omega arith);
+      second = right-clean (below (firstChecks card w e) (suc e)) _ both;
+    }
+
+module _ (card : Card) (w : List ℕ) (ranges : Ranges card) (j : Judged card w) where
+  pair-clean : (p : ℕ) → p ≤ endOf w → firstBroken (pairChecks card w (quadwords (endOf w)) (quadwords p) (controlAt w p) (lowAt w p) (highAt w p)) ≡ Accepted
+  unfolding firstChecks
+  pair-clean p l = left-clean (pairChecks card w (quadwords (endOf w)) (quadwords p) (controlAt w p) (lowAt w p) (highAt w p)) _ (j .first p l)
+
+  stack-clean : (p : ℕ) → p ≤ endOf w → firstBroken (stackChecks (card .stack) (endOf w) (flowAt w) p) ≡ Accepted
+  unfolding firstChecks
+  stack-clean p l = right-clean (pairChecks card w (quadwords (endOf w)) (quadwords p) (controlAt w p) (lowAt w p) (highAt w p)) _ (j .first p l)
+
+  safe-at : (s : State) → Sound (card .stack) (endOf w) (flowAt w) s → Safe card w s
+  safe-at s k =
+      record {
+        no-fault = k .no-fault;
+        inside = k .inside;
+        clause-behind = place-behind card w (endOf w) (ranges .quads-most) (j .whole) (s .at) (pair-clean (s .at) (k .inside));
+        all-granted = place-granted card w (endOf w) (ranges .quads-most) (j .whole) (s .at) (pair-clean (s .at) (k .inside));
+        not-deep = k .not-deep;
+        goes-on = k .goes-on;
+        halted-empty = k .halted-empty;
+      }
+
+  safely : Safely card w
+  safely answers =
+      safe-at (walk (endOf w) (flowAt w) start answers)
+      (walk-sound (card .stack) (endOf w) (flowAt w) (clean-passes (card .stack) (endOf w) (flowAt w) stack-clean (j .second)) answers)
+
+-- an accepted pack's walk is safe
+pub accepted-safely : (card : Card) (w : List ℕ) → Ranges card → judgement card w ≡ Accepted → Safely card w
+accepted-safely card w r h = safely card w r (judged card w h)

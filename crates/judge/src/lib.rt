@@ -1,0 +1,155 @@
+// The judge: both passes over a pack, and its verdict.
+//
+// Document 01, "Numbers and what they mean": the checks in their order, of which the first broken one is the answer. Nothing is copied;
+// the stack before each place of the section is kept as two numbers (crate `flow`).
+use card::Card;
+use card::CardRead;
+use card::CardTest;
+use checks::Place;
+use checks::Rule;
+use checks::Verdict;
+use flow::Frames;
+use units::Quadwords;
+use units::Slots;
+ghost use mathlib.Core.Path.{_≡_};
+ghost use Prim.Native.Nat.{suc};
+ghost use Rattle.checks.specs.Checks.{firstBroken, below};
+ghost use Rattle.checks.specs.declared.Place.the-variants.{Whole};
+ghost use Rattle.checks.specs.declared.Verdict.the-variants.{Accepted, Refused};
+ghost use Rattle.units.specs.Units as counts;
+ghost use Rattle.flow.specs.Held.{Recorded};
+ghost use Rattle.flow.specs.Pairs.{flowAt};
+ghost use Rattle.judge.specs.Judge.{firstChecks, passes, judgement, judgementOfBytes};
+ghost use Rattle.judge.specs.Safe.{Safely, SafelyRead};
+ghost use Rattle.judge.specs.Passing.{InWords, Section, Within, Ready, Found};
+
+mod pairs;
+mod stack;
+
+use stack::Ahead;
+
+// The verdict on a pack by a card. Whatever the words and the card are, there is an answer; and where it is Accepted, every walk is safe.
+pub fn judge(card: Card, words: &[u32]) -> Verdict
+    ensures { λ r. ⌜ r ≡ judgement card (now (words .entry)) ⌝ }
+    ensures { λ r. ⌜ (r ≡ Accepted → Safely card (now (words .entry))) ⌝ }
+{
+    let test = card::check_card(card);
+    if let CardTest::BadLine(n) = test {
+        return Verdict::Refused {
+            rule: Rule::CardLine,
+            place: Place::Line(n),
+            slot: Slots(0),
+        };
+    }
+    if control::is_bad_length(words, card.quads) {
+        return refused_whole(Rule::PackLength);
+    }
+    let searched = control::searched_pairs(words);
+    let end = control::find_end(words);
+    if units::is_at_most(searched, end) {
+        return refused_whole(Rule::NoEnd);
+    }
+    both_passes(card, words, end.0)
+}
+
+// The same of a card in bytes. What stands behind its seventh line is not looked at.
+pub fn judge_bytes(bytes: &[u8], words: &[u32]) -> Verdict
+    ensures { λ r. ⌜ r ≡ judgementOfBytes (now (bytes .entry)) (now (words .entry)) ⌝ }
+    ensures { λ r. ⌜ (r ≡ Accepted → SafelyRead (now (bytes .entry)) (now (words .entry))) ⌝ }
+{
+    let read = card::read_card(bytes);
+    match read {
+        CardRead::Whole(card, _) => judge(card, words),
+        CardRead::BadLine(n) => Verdict::Refused {
+            rule: Rule::CardLine,
+            place: Place::Line(n),
+            slot: Slots(0),
+        },
+    }
+}
+
+fn refused_whole(rule: Rule) -> Verdict
+    ensures { λ r. ⌜ r ≡ Refused rule Whole (counts.slots 0) ⌝ }
+{
+    Verdict::Refused {
+        rule,
+        place: Place::Whole,
+        slot: Slots(0),
+    }
+}
+
+// The section ends at pair `e`.
+fn both_passes(card: Card, words: &[u32], e: usize) -> Verdict
+    requires { ⌜ InWords (now words) e ⌝ }
+    ensures { λ r. ⌜ r ≡ firstBroken (passes card (now (words .entry)) e) ⌝ }
+{
+    let mut tops = [0usize; 512];
+    let mut marks = [0usize; 512];
+    let first = first_pass(card, words, e, &mut tops, &mut marks);
+    match first {
+        Verdict::Refused { rule, place, slot } => Verdict::Refused { rule, place, slot },
+        Verdict::Accepted => flow::second_pass(words, e + 1, &tops, &marks),
+    }
+}
+
+// Rules 4 to 17, places rising. The rows of all places are left for the second pass.
+fn first_pass(
+    card: Card,
+    words: &[u32],
+    e: usize,
+    tops: &mut [usize],
+    marks: &mut [usize],
+) -> Verdict
+    requires { ⌜ Section (now words) e (now tops) (now marks) ⌝ }
+    ensures { λ r. ⌜ r ≡ firstBroken (below (firstChecks card (now (words .entry)) e) (suc e)) ⌝ }
+    ensures { λ r. ⌜ (r ≡ Accepted → Recorded (flowAt (now (words .entry))) (suc e) (now (tops .exit)) (now (marks .exit))) ⌝ }
+{
+    let mut s = Frames {
+        top: 0,
+        marks: 0,
+        depth: 0,
+    };
+    let mut p = 0;
+    while p <= e {
+        let ahead = first_at(card, words, e, p, s, &tops[..], &marks[..]);
+        tops[p] = s.top;
+        marks[p] = s.marks;
+        match ahead {
+            Ahead::Broken { rule, place, slot } => {
+                return Verdict::Refused { rule, place, slot };
+            }
+            Ahead::Next(f) => {
+                s = f;
+            }
+        }
+        p += 1;
+    }
+    Verdict::Accepted
+}
+
+// Rules 4 to 17 at place p.
+fn first_at(
+    card: Card,
+    words: &[u32],
+    e: usize,
+    p: usize,
+    s: Frames,
+    tops: &[usize],
+    marks: &[usize],
+) -> Ahead
+    requires { ⌜ Within (now words) e p ⌝ }
+    requires { ⌜ Ready (flowAt (now words)) (card .stack) p s (now tops) (now marks) ⌝ }
+    ensures { λ r. ⌜ Found card (now (words .entry)) e p r ⌝ }
+{
+    let low = words[2 * p];
+    let high = words[2 * p + 1];
+    let control = control::control_of(high);
+    let verdict = pairs::pair_verdict(card, words, Quadwords(e), Quadwords(p), control, low, high);
+    match verdict {
+        Verdict::Refused { rule, place, slot } => Ahead::Broken { rule, place, slot },
+        Verdict::Accepted => {
+            let flow = flow::flow_of(control, low, high);
+            stack::stack_at(words, flow, card.stack as usize, e, p, s, tops, marks)
+        }
+    }
+}
