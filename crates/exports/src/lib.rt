@@ -12,7 +12,17 @@ ghost use lib.Dec.{eqb};
 ghost use Rattle.units.specs.Units as counts;
 ghost use Rattle.checks.specs.Checks.{firstBroken};
 ghost use Rattle.clauses.specs.Clause.{clauseChecks};
+ghost use Rattle.judge.specs.Judge.{judgementOfBytes};
 ghost use Rattle.exports.specs.Packed.{packed, kindOf, limitsOf};
+
+// The verdict on a pack by a card in bytes.
+#[no_mangle]
+pub extern "C" fn zlatomruk_judge(card: &[u8], words: &[u32]) -> u64
+    ensures { λ r. ⌜ r ≡ packed (judgementOfBytes (now (card .entry)) (now (words .entry))) ⌝ }
+{
+    let v = judge::judge_bytes(card, words);
+    pack(v)
+}
 
 // Rules 10 to 15 on the ALU clause of `count` slots from quadword `start` on; the place is 0.
 #[no_mangle]

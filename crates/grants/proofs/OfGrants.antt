@@ -3,7 +3,7 @@ use mathlib.Core.Path.{_≡_, refl, sym, ap, _∙_}
 use mathlib.Core.Bool.{Bool, true, false, cond, _&&_, _||_, and-true}
 use mathlib.Core.List.{List, [], _∷_, _++_, List·Memᴰ, List·Memᴰ·not-nil, List·Memᴰ·cases-cons}
 use mathlib.Core.Logic.{⊎-elim}
-use Prim.Native.Nat.{ℕ, _+_, _-_, _≤_, _<_}
+use Prim.Native.Nat.{ℕ, _+_, _-_, _≤_, _<_, min}
 use native.Mathlib.Omega.{arith}
 use lib.Dec.{eqb, ltb, leb}
 use borrow.Author.Tests.{lt-ltb, le-ltb, le-leb, lt-leb, ltb-true, ltb-false, leb-true, leb-false, eq-eqb, ne-eqb}
@@ -91,22 +91,68 @@ same-bound s k n l = by (ltb (s - k) n) refl
     by true e = lt-ltb s (k + n) (omega (arith, ltb-true (s - k) n e))
     by false e = le-ltb s (k + n) (omega (arith, ltb-false (s - k) n e))
 
+drop-two : (b : Bool) → ((b || false) || false) ≡ (b && true)
+drop-two true = refl
+drop-two false = refl
+
+or-kept : (b : Bool) → (b || true) ≡ true
+or-kept true = refl
+or-kept false = refl
+
+-- a bound of at least 128 lets every register through
+least-bound : (s g : ℕ) → s < 128 → ltb s (min g 128) ≡ ltb s g
+least-bound s g h = by (ltb s g) refl
+  where
+    by : (b : Bool) → ltb s g ≡ b → ltb s (min g 128) ≡ b
+    by true e = lt-ltb s (min g 128) (omega (arith, ltb-true s g e))
+    by false e = le-ltb s (min g 128) (omega (arith, ltb-false s g e))
+
+register-test : (l : Limits) (s : ℕ) → s < 128 → ((ltb s (min (l .gprs) 128) || (leb (128 - l .temps) s && true)) || false) ≡ (granted l (aluRegister s) && true)
+register-test l s h = rw (least-bound s (l .gprs) h) (by (ltb s (l .gprs)) (leb (128 - l .temps) s))
+  where
+    by : (a b : Bool) → ((a || (b && true)) || false) ≡ ((a || b) && true)
+    by true b = refl
+    by false true = refl
+    by false false = refl
+
 module _ (l : Limits) (s : ℕ) where
-  -- below the bound of its kind, or a clause temporary
+  -- a source by a test for each kind, of which at most one can hold
   abbrev pub tests : Bool
   tests =
-      ltb s (cond (ltb s 128) (l .gprs) (cond (ltb s 160) (128 + locked (l .mode0)) (cond (ltb s 192) (160 + locked (l .mode1)) (cond (ltb s 256) 256 (256 + l .consts)))))
-      || (ltb s 128 && leb 128 (s + l .temps))
+      (ltb s (min (l .gprs) 128) || (leb (128 - l .temps) s && ltb s 128))
+      || (((leb 128 s && ltb s (128 + locked (l .mode0))) || (leb 160 s && ltb s (160 + locked (l .mode1))))
+      || ((leb 192 s && ltb s 256) || (leb 256 s && ltb s (256 + l .consts))))
+
+  no-register : 128 ≤ s → (ltb s (min (l .gprs) 128) || (leb (128 - l .temps) s && ltb s 128)) ≡ false
+  no-register h = rw (le-ltb s (min (l .gprs) 128) (omega arith), le-ltb s 128 h) (and-none (leb (128 - l .temps) s))
+    where
+      and-none : (b : Bool) → (b && false) ≡ false
+      and-none true = refl
+      and-none false = refl
 
   in-order : (a : Bool) → ltb s 128 ≡ a → (b : Bool) → ltb s 160 ≡ b → (d : Bool) → ltb s 192 ≡ d → (e : Bool) → ltb s 256 ≡ e → tests ≡ allGranted l (sourceNames s)
-  in-order true a b p d q e r = rw (a, temps-side s (l .temps)) (sym (and-true (granted l (aluRegister s))))
+  in-order true a b p d q e r =
+      let h = ltb-true s 128 a in
+      rw (a, lt-leb 128 s (omega arith), lt-leb 160 s (omega arith), lt-leb 192 s (omega arith), lt-leb 256 s (omega arith))
+      (register-test l s h)
   in-order false a true p d q e r =
-      rw (a, p, same-bound s 128 (locked (l .mode0)) (ltb-false s 128 a)) (or-nothing (ltb (s - 128) (locked (l .mode0))))
+      let g = ltb-false s 128 a in
+      let h = ltb-true s 160 p in
+      rw (no-register g, a, p, le-leb 128 s (omega arith), lt-leb 160 s (omega arith), lt-leb 192 s (omega arith), lt-leb 256 s (omega arith), same-bound s 128 (locked (l .mode0)) g)
+      (drop-two (ltb (s - 128) (locked (l .mode0))))
   in-order false a false p true q e r =
-      rw (a, p, q, same-bound s 160 (locked (l .mode1)) (ltb-false s 160 p)) (or-nothing (ltb (s - 160) (locked (l .mode1))))
-  in-order false a false p false q true r = rw (a, p, q, r, lt-ltb s 256 (ltb-true s 256 r))
+      let g = ltb-false s 160 p in
+      let h = ltb-true s 192 q in
+      rw (no-register (omega arith), a, p, q, le-leb 128 s (omega arith), le-ltb s (128 + locked (l .mode0)) (omega (arith, locked-most (l .mode0))), le-leb 160 s (omega arith), lt-leb 192 s (omega arith), lt-leb 256 s (omega arith), same-bound s 160 (locked (l .mode1)) g)
+      (or-nothing (ltb (s - 160) (locked (l .mode1))))
+  in-order false a false p false q true r =
+      let g = ltb-false s 192 q in
+      rw (no-register (omega arith), a, p, q, r, le-leb 192 s g)
+      (or-kept ((leb 128 s && ltb s (128 + locked (l .mode0))) || (leb 160 s && ltb s (160 + locked (l .mode1)))))
   in-order false a false p false q false r =
-      rw (a, p, q, r, same-bound s 256 (l .consts) (ltb-false s 256 r)) (or-nothing (ltb (s - 256) (l .consts)))
+      let g = ltb-false s 256 r in
+      rw (no-register (omega arith), a, p, q, r, le-leb 128 s (omega arith), le-ltb s (128 + locked (l .mode0)) (omega (arith, locked-most (l .mode0))), le-leb 160 s (omega arith), le-ltb s (160 + locked (l .mode1)) (omega (arith, locked-most (l .mode1))), le-leb 192 s (omega arith), le-leb 256 s g, same-bound s 256 (l .consts) g)
+      (sym (and-true (ltb (s - 256) (l .consts))))
 
   pub source-tests : tests ≡ allGranted l (sourceNames s)
   source-tests = in-order (ltb s 128) refl (ltb s 160) refl (ltb s 192) refl (ltb s 256) refl

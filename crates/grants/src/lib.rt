@@ -2,7 +2,7 @@
 //
 // Rules 7, 9 and 15 of document 01 ask this, and so does the claim about the walk: specs/Grants.antt says it once for all of them.
 ghost use mathlib.Core.Path.{_≡_};
-ghost use mathlib.Core.Bool.{cond};
+ghost use Prim.Native.Nat.{_-_, min};
 ghost use Rattle.grants.specs.Grants.{register, aluRegister, granted, allGranted, sourceNames, locked};
 
 // The card's figures, and the two modes of an ALU clause's opener (any number where there is none).
@@ -38,30 +38,31 @@ fn locked_by(mode: u32) -> u32
     if mode == 1 { 16 } else { 32 }
 }
 
-// What a source of an ALU instruction names, by its number: below the bound of its kind, or a clause temporary. No branch goes by the
-// kind, since a pack mixes them and none could be foreseen.
+// Registers below this are granted; a register's number is below 128.
+fn register_bound(gprs: u32) -> usize
+    ensures { λ r. ⌜ r ≡ min gprs 128 ⌝ }
+{
+    if gprs < 128 { gprs as usize } else { 128 }
+}
+
+// The lowest clause temporary.
+fn temps_start(temps: u32) -> usize
+    ensures { λ r. ⌜ r ≡ 128 - temps ⌝ }
+{
+    if temps < 128 { 128 - temps as usize } else { 0 }
+}
+
+// What a source of an ALU instruction names, by its number: a test for each kind, of which at most one can hold. No branch goes by the
+// kind, since a pack mixes them and none could be foreseen; what the limits alone decide leaves the loop over a clause.
 pub fn source_granted(limits: Limits, s: u32) -> bool
     ensures { λ ok. ⌜ ok ≡ allGranted limits (sourceNames s) ⌝ }
 {
     let source = s as usize;
-    let above_sets = chosen(source < 256, 256, 256 + limits.consts as usize);
-    let from_set1 = chosen(
-        source < 192,
-        160 + locked_by(limits.mode1) as usize,
-        above_sets,
-    );
-    let from_set0 = chosen(
-        source < 160,
-        128 + locked_by(limits.mode0) as usize,
-        from_set1,
-    );
-    let bound = chosen(source < 128, limits.gprs as usize, from_set0);
-    let temporary = (source < 128) & (128 <= source + limits.temps as usize);
-    (source < bound) | temporary
-}
-
-fn chosen(first: bool, a: usize, b: usize) -> usize
-    ensures { λ r. ⌜ r ≡ cond first a b ⌝ }
-{
-    if first { a } else { b }
+    let register = source < register_bound(limits.gprs);
+    let temporary = (temps_start(limits.temps) <= source) & (source < 128);
+    let in_set0 = (128 <= source) & (source < 128 + locked_by(limits.mode0) as usize);
+    let in_set1 = (160 <= source) & (source < 160 + locked_by(limits.mode1) as usize);
+    let inline = (192 <= source) & (source < 256);
+    let constant = (256 <= source) & (source < 256 + limits.consts as usize);
+    (register | temporary) | ((in_set0 | in_set1) | (inline | constant))
 }

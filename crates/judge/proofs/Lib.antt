@@ -4,3 +4,4 @@ pub mod OfStack
 pub mod OfPass
 pub mod OfSafe
 pub mod OfJudge
+pub mod Examples

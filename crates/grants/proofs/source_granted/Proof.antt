@@ -1,7 +1,7 @@
--- `grants::source_granted` meets its contract: the bound of the source's kind. Assumes nothing.
+-- `grants::source_granted` meets its contract: one test for each kind of source. Assumes nothing.
 use borrow.Author.Needs.{needs}
 use mathlib.Core.Path.{_≡_, _∙_}
-use mathlib.Core.Bool.{cond, _&&_, _||_}
+use mathlib.Core.Bool.{_&&_, _||_}
 use Prim.Native.Nat.{_+_}
 use lib.Dec.{ltb, leb}
 use Rattle.grants.proofs.OfGrants.{source-tests}
@@ -10,32 +10,28 @@ use Rattle.grants.proofs.source_granted.Tie as tie
 
 returns : tie.Need-returns
 returns c =
-    let set0 = c .before .before .before in
-    let set1 = set0 .before .before in
-    let a = set1 .before .before .before .before .args in
-    let above = set1 .before .before .chosen .ensures in
-    let from1 = set1 .chosen2 .ensures ∙ (λ i. cond (ltb (a .s) 192) (160 + set1 .before .locked-by .ensures i) (above i)) in
-    let from0 = set0 .chosen3 .ensures ∙ (λ i. cond (ltb (a .s) 160) (128 + set0 .before .locked-by2 .ensures i) (from1 i)) in
-    let bound = c .before .chosen4 .ensures ∙ (λ i. cond (ltb (a .s) 128) (a .limits .gprs) (from0 i)) in
-    (λ i. ltb (a .s) (bound i) || (ltb (a .s) 128 && leb 128 (a .s + a .limits .temps))) ∙ source-tests (a .limits) (a .s)
+    let set1 = c .before in
+    let set0 = set1 .before in
+    let temps = set0 .before in
+    let a = temps .before .before .args in
+    (λ i.
+    (ltb (a .s) (temps .before .register-bound .ensures i) || (leb (temps .temps-start .ensures i) (a .s) && ltb (a .s) 128))
+    || (((leb 128 (a .s) && ltb (a .s) (128 + set0 .locked-by .ensures i)) || (leb 160 (a .s) && ltb (a .s) (160 + set1 .locked-by2 .ensures i)))
+    || ((leb 192 (a .s) && ltb (a .s) 256) || (leb 256 (a .s) && ltb (a .s) (256 + a .limits .consts)))))
+    ∙ source-tests (a .limits) (a .s)
 
 pub source-granted-spec : {M : Type 1} → statement M
 source-granted-spec =
     tie.close
     (tie.spec
-    (λ c. search needs)
-    (λ c. search needs)
     (λ c κs. tt)
-    (λ c κs. tt)
-    (λ c. search needs)
-    (λ c. search needs)
     (λ c κs. tt)
     (λ c κs. tt)
     (λ c. search needs)
     (λ c. search needs)
     (λ c κs. tt)
     (λ c. search needs)
-    (λ c κs. tt)
+    (λ c. search needs)
     (λ c. search needs)
     (λ c. search needs)
     returns)

@@ -1,0 +1,210 @@
+//! ALU clauses that are accepted under given grants, by construction.
+
+use super::random::Random;
+use crate::plain::Kind;
+
+/// What a clause may use, and what it is opened with.
+#[derive(Clone, Copy, Debug)]
+pub struct Setting {
+    pub kind: Kind,
+    pub push_before: bool,
+    pub gprs: u32,
+    pub temps: u32,
+    pub consts: u32,
+    pub mode0: u32,
+    pub mode1: u32,
+}
+
+impl Setting {
+    /// Grants of every sort, none so tight that a clause of mixed operands could not be made.
+    pub fn generous(kind: Kind, push_before: bool) -> Self {
+        Setting { kind, push_before, gprs: 100, temps: 4, consts: 256, mode0: 2, mode1: 1 }
+    }
+
+    pub fn any(random: &mut Random) -> Self {
+        let gprs = random.pick(&[1, 2, 7, 40, 100, 124]);
+        Setting {
+            kind: random.pick(&[Kind::Pixel, Kind::Pixel, Kind::Vertex, Kind::Geometry]),
+            push_before: random.once_in(3),
+            gprs,
+            temps: random.below(5) as u32,
+            consts: random.pick(&[0, 1, 100, 255, 256]),
+            mode0: random.below(4) as u32,
+            mode1: random.below(4) as u32,
+        }
+    }
+}
+
+const ANY: &[u32] = &[0, 1, 2, 3, 4, 5, 6, 8, 11, 12, 15, 16, 20, 25, 48, 51, 53, 57, 58, 63, 112, 114];
+const ANY_OP3: &[u32] = &[16, 17, 19, 20, 23, 24, 25, 26];
+const TRANS: &[u32] = &[97, 99, 102, 105, 107, 111, 115, 118, 120];
+const TRANS_OP3: &[u32] = &[12, 13, 14, 15];
+const MOVAS: &[u32] = &[21, 22, 24];
+const REDUCTIONS: &[u32] = &[80, 81, 82, 83];
+const SETTERS: &[u32] = &[32, 35, 36, 39, 40, 43, 66, 69, 70, 71, 74, 79];
+const KILLS: &[u32] = &[44, 45, 46, 47];
+
+/// One instruction before its words are made.
+struct Plan {
+    op3: bool,
+    number: u32,
+    channel: u32,
+    trans: bool,
+}
+
+impl Plan {
+    fn words(&self, sources: [u32; 3], shared: u32, relative: bool, setting: &Setting, random: &mut Random) -> [u32; 2] {
+        let swizzle = random.below(if self.trans { 4 } else { 6 }) as u32;
+        let pred_sel = random.pick(&[0, 0, 2, 3]);
+        let low = sources[0] | sources[1] << 13 | (random.below(5) as u32) << 26 | pred_sel << 29;
+        let target = register(setting, random);
+        let mut high = swizzle << 18 | target << 21 | self.channel << 29;
+        if relative && random.once_in(8) {
+            high |= 1 << 28 | 127 << 21; // out of every grant, and free by its relative bit
+        }
+        if self.op3 {
+            high |= sources[2] | self.number << 13 | shared & 1 << 31;
+        } else {
+            high |= random.word() & 0x1F | self.number << 7 | shared;
+        }
+        [low, high]
+    }
+}
+
+/// A register that is granted.
+fn register(setting: &Setting, random: &mut Random) -> u32 {
+    let number = random.below((setting.gprs + setting.temps) as usize) as u32;
+    if number < setting.gprs { number } else { 128 - setting.temps + (number - setting.gprs) }
+}
+
+/// A source's 13 bits: granted, no literal, and with a relative bit only where the group allows one.
+fn source(setting: &Setting, relative: bool, random: &mut Random) -> u32 {
+    let locked = |mode: u32| [0, 16, 32, 32][mode as usize];
+    let select = loop {
+        match random.below(8) {
+            0..=3 => break register(setting, random),
+            4 if setting.mode0 > 0 => break 128 + random.below(locked(setting.mode0)) as u32,
+            5 if setting.mode1 > 0 => break 160 + random.below(locked(setting.mode1)) as u32,
+            6 if setting.consts > 0 => break 256 + random.below(setting.consts as usize) as u32,
+            7 => break random.pick(&[248, 249, 250, 251, 252, 254, 255]),
+            _ => {}
+        }
+    };
+    let relative = relative && !(192..256).contains(&select) && random.once_in(6);
+    select | u32::from(relative) << 9 | (random.word() & 7) << 10
+}
+
+/// The instructions of a group: channels of the vector units rising, then Trans.
+fn plans(count: usize, special: Special, random: &mut Random) -> Vec<Plan> {
+    let with_trans = match special {
+        Special::Reduction => count == 5,
+        _ => count == 5 || (count > 1 && random.once_in(3)) || random.once_in(8),
+    };
+    let vectors = count - usize::from(with_trans);
+    let mut plans = Vec::with_capacity(count);
+    for channel in 0..4 {
+        if random.below(4 - channel) < vectors - plans.len() {
+            let op3 = random.once_in(3);
+            let number = random.pick(if op3 { ANY_OP3 } else { ANY });
+            plans.push(Plan { op3, number, channel: channel as u32, trans: false });
+        }
+    }
+    if special == Special::Reduction {
+        let number = random.pick(REDUCTIONS);
+        plans.iter_mut().for_each(|plan| (plan.op3, plan.number) = (false, number));
+    } else if !with_trans && random.once_in(6) {
+        let last = plans.len() - 1;
+        (plans[last].op3, plans[last].number) = (false, 52); // ADD_INT, vector only
+    }
+    if with_trans {
+        // An any-unit number goes to Trans where its own channel is taken before it.
+        let taken = (!plans.is_empty() && random.once_in(2)).then(|| plans[random.below(plans.len())].channel);
+        let op3 = random.once_in(3);
+        let number = random.pick(match (taken.is_some(), op3) {
+            (true, false) => ANY,
+            (true, true) => ANY_OP3,
+            (false, false) => TRANS,
+            (false, true) => TRANS_OP3,
+        });
+        plans.push(Plan { op3, number, channel: taken.unwrap_or(random.word() & 3), trans: true });
+    }
+    plans
+}
+
+#[derive(Clone, Copy, PartialEq, Eq)]
+enum Special {
+    None,
+    Reduction,
+    Mova,
+    Setter,
+    Kill,
+}
+
+/// A clause of exactly `slots` slots, accepted under `setting`.
+pub fn clause(slots: usize, setting: &Setting, random: &mut Random) -> Vec<u32> {
+    let mut words = Vec::with_capacity(2 * slots);
+    let mut setters = 0;
+    // PUSH_BEFORE needs exactly one setter: at the latest the last group has it.
+    let one_at_least = setting.push_before || random.once_in(2);
+    let setter_from = random.below(slots);
+    while words.len() < 2 * slots {
+        let first = words.len() / 2;
+        let left = slots - first;
+        let count = random.between(1, left.min(5));
+        let literals = random.pick(&[0, 0, 0, 1, 2]).min(left - count);
+        let ends = count + literals == left;
+        let due = one_at_least && setters == 0 && (ends || first >= setter_from);
+        let wants_setter = due || (!setting.push_before && random.once_in(12));
+        let special = if wants_setter {
+            Special::Setter
+        } else if ends {
+            if setting.kind == Kind::Pixel { Special::Kill } else { Special::None } // nowhere else may a kill stand
+        } else if count >= 4 && random.once_in(4) {
+            Special::Reduction
+        } else if random.once_in(10) {
+            Special::Mova
+        } else {
+            Special::None
+        };
+        setters += usize::from(special == Special::Setter);
+        group(count, literals, special, setting, random, &mut words);
+    }
+    words
+}
+
+fn group(count: usize, literals: usize, special: Special, setting: &Setting, random: &mut Random, words: &mut Vec<u32>) {
+    let mut plans = plans(count, special, random);
+    // Setters and kills go to any unit: they may replace an any-unit number, in Trans too if its channel is taken.
+    // A MOVA has to stand in a vector unit, so it takes the first, if that is one.
+    let numbers = match special {
+        Special::Setter => SETTERS,
+        Special::Kill => KILLS,
+        Special::Mova if !plans[0].trans => MOVAS,
+        _ => &[],
+    };
+    if !numbers.is_empty() {
+        let first = &mut plans[0];
+        (first.op3, first.number) = (false, random.pick(numbers));
+        // Alone in a group it is not in Trans but in its own channel.
+        first.trans = false;
+    }
+    let relative = special != Special::Mova;
+    let shared = if special == Special::Reduction || random.once_in(3) { random.word() & 0x8000_0060 } else { 0 };
+    let holder = random.below(count);
+    for (index, plan) in plans.iter().enumerate() {
+        let mut sources = [0; 3].map(|_| source(setting, relative, random));
+        if literals > 0 && (index == holder || random.once_in(4)) {
+            // The holder makes sure that the group has exactly the literals planned.
+            let channel =
+                if index == holder { 2 * literals as u32 - 2 + (random.word() & 1) } else { random.below(2 * literals) as u32 };
+            let at = random.below(if plan.op3 { 3 } else { 2 });
+            sources[at] = 253 | channel << 10;
+        }
+        let [mut low, high] = plan.words(sources, shared, relative, setting, random);
+        if index + 1 == count {
+            low |= 1 << 31;
+        }
+        words.extend([low, high]);
+    }
+    words.extend((0..2 * literals).map(|_| random.word()));
+}

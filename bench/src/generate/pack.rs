@@ -1,0 +1,218 @@
+//! Whole packs that are accepted, by construction: first the steps along "no", then targets that carry the right stack,
+//! then the clauses.
+
+use super::clause::{Setting, clause};
+use super::control::{self, ELSE, JUMP, LOOP_BREAK, LOOP_CONTINUE, LOOP_END, LOOP_START, NOP, POP, TEX, VTX, VTX_TC};
+use super::random::Random;
+use crate::plain::Kind;
+use crate::plain::card::Card;
+
+/// A pack and where its parts lie (in quadwords), so that damage can be aimed.
+#[derive(Clone)]
+pub struct Pack {
+    pub card: Card,
+    pub words: Vec<u32>,
+    pub end: usize,
+    pub alu: Vec<(usize, usize)>,
+    pub fetches: Vec<(usize, usize)>,
+}
+
+/// How large a pack is to be: steps of control flow, slots of an ALU clause, fetches of a clause.
+#[derive(Clone, Copy)]
+pub struct Size {
+    pub steps: usize,
+    pub slots: usize,
+    pub fetches: usize,
+    pub depth: usize,
+}
+
+#[derive(Clone, Copy, PartialEq, Eq)]
+enum Frame {
+    Mask,
+    Loop(usize),
+}
+
+#[derive(Clone, Copy, PartialEq, Eq)]
+enum Step {
+    Plain,
+    Fetch(u32),
+    Export,
+    Alu(u32),
+    Branch(u32),
+    Pop(usize),
+}
+
+/// The steps and the stack before each; the last is the end.
+struct Course {
+    steps: Vec<Step>,
+    before: Vec<Vec<Frame>>,
+    stack: Vec<Frame>,
+}
+
+fn masks(stack: &[Frame]) -> usize {
+    stack.iter().rev().take_while(|frame| **frame == Frame::Mask).count()
+}
+
+impl Course {
+    fn take(&mut self, step: Step) {
+        let position = self.steps.len();
+        self.steps.push(step);
+        self.before.push(self.stack.clone());
+        let depth = self.stack.len();
+        match step {
+            Step::Alu(9) => self.stack.push(Frame::Mask),
+            Step::Alu(10) => self.stack.truncate(depth - 1),
+            Step::Alu(11) => self.stack.truncate(depth - 2),
+            Step::Pop(count) => self.stack.truncate(depth - count),
+            Step::Branch(LOOP_START) => self.stack.push(Frame::Loop(position)),
+            Step::Branch(LOOP_END) => self.stack.truncate(depth - 1),
+            _ => {}
+        }
+    }
+
+    fn random(size: Size, random: &mut Random) -> Self {
+        let mut course = Course { steps: Vec::new(), before: Vec::new(), stack: Vec::new() };
+        while course.steps.len() < size.steps {
+            let masks = masks(&course.stack);
+            let in_loop = course.stack.len() > masks;
+            let may_push = course.stack.len() < size.depth;
+            match random.below(16) {
+                0 => course.take(Step::Plain),
+                1 => course.take(Step::Fetch(random.pick(&[TEX, VTX, VTX_TC]))),
+                2 => course.take(Step::Export),
+                3 | 4 => course.take(Step::Alu(8)),
+                5 | 6 if may_push => course.take(Step::Alu(9)),
+                7 | 8 if may_push => course.take(Step::Branch(LOOP_START)),
+                9 if masks >= 1 => course.take(Step::Alu(10)),
+                9 => course.take(Step::Branch(JUMP)),
+                10 if masks >= 2 => course.take(Step::Alu(11)),
+                11 | 12 if masks >= 1 => course.take(Step::Branch(random.pick(&[JUMP, ELSE]))),
+                13 => course.take(Step::Pop(random.below(masks.min(7) + 1))),
+                14 if in_loop && masks <= 7 => course.take(Step::Branch(random.pick(&[LOOP_BREAK, LOOP_CONTINUE]))),
+                15 if in_loop && masks == 0 => course.take(Step::Branch(LOOP_END)),
+                _ => {}
+            }
+        }
+        course.close(random);
+        course.take(random.pick(&[Step::Plain, Step::Plain, Step::Export, Step::Fetch(TEX), Step::Fetch(VTX)]));
+        course
+    }
+
+    /// Pops what is left.
+    fn close(&mut self, random: &mut Random) {
+        while !self.stack.is_empty() {
+            let masks = masks(&self.stack);
+            self.take(match (masks, random.below(2)) {
+                (0, _) => Step::Branch(LOOP_END),
+                (1, 0) => Step::Alu(10),
+                (2.., 0) => Step::Alu(11),
+                _ => Step::Pop(random.between(1, masks.min(7))),
+            });
+        }
+    }
+
+    /// A target for the branch at `position`, and its POP_COUNT.
+    fn target(&self, position: usize, random: &mut Random) -> (usize, usize) {
+        let stack = &self.before[position];
+        let masks = masks(stack);
+        let behind = |pops: usize, wanted: fn(Step) -> bool| -> Vec<usize> {
+            let carried = &stack[..stack.len() - pops];
+            let equal = |&at: &usize| self.before[at] == carried && wanted(self.steps[at]);
+            (position + 1..self.steps.len()).filter(equal).collect()
+        };
+        let is_end = |step| step == Step::Branch(LOOP_END);
+        match self.steps[position] {
+            Step::Pop(count) => (random.pick(&behind(count, |_| true)), count),
+            Step::Branch(LOOP_BREAK | LOOP_CONTINUE) => (behind(masks, is_end)[0], masks),
+            Step::Branch(LOOP_START) => {
+                let loop_end = |&at: &usize| self.before[at].last() == Some(&Frame::Loop(position)) && is_end(self.steps[at]);
+                ((position..self.steps.len()).find(loop_end).expect("every loop is closed") + 1, 0)
+            }
+            Step::Branch(LOOP_END) => match stack.last() {
+                Some(&Frame::Loop(start)) => (start + 1, 0),
+                _ => unreachable!("taken only with a loop on top"),
+            },
+            _ => {
+                let pops = random.below(masks.min(7) + 1);
+                match behind(pops, |_| true).as_slice() {
+                    [] => (position + 1, 0), // "no" pops nothing, so the next position always fits
+                    fitting => (random.pick(fitting), pops),
+                }
+            }
+        }
+    }
+}
+
+fn card(random: &mut Random) -> Card {
+    let gprs = random.pick(&[1, 2, 9, 64, 124, 127, 128]);
+    Card {
+        kind: random.pick(&[Kind::Pixel, Kind::Pixel, Kind::Vertex, Kind::Geometry]),
+        production: !random.once_in(4),
+        gprs,
+        temps: random.below((128 - gprs as usize).min(4) + 1) as u32,
+        consts: random.pick(&[0, 1, 17, 255, 256]),
+        stack: 0,
+        quads: 0,
+    }
+}
+
+/// A pack that every rule lets pass, unless its section gets longer than 512 pairs; `size` must not be so large that it
+/// could exceed 8,192 quadwords.
+pub fn pack(size: Size, random: &mut Random) -> Pack {
+    let card = card(random);
+    let course = Course::random(size, random);
+    let end = course.steps.len() - 1;
+    let mut pack = Pack { card, words: vec![0; 2 * (end + 1)], end, alu: Vec::new(), fetches: Vec::new() };
+    for (position, &step) in course.steps.iter().enumerate() {
+        let pair = match step {
+            Step::Plain => control::pair(NOP, random.word(), random.word() & 7, 0, random),
+            Step::Export => control::export(&card, random).unwrap_or_else(|| control::pair(NOP, 0, 0, 0, random)),
+            Step::Fetch(number) => pack.fetch_clause(number, size, random),
+            Step::Alu(number) => pack.alu_clause(number, size, random),
+            Step::Pop(_) | Step::Branch(_) => {
+                let (target, pops) = course.target(position, random);
+                let number = if let Step::Branch(number) = step { number } else { POP };
+                // Loop starts and ends don't read POP_COUNT.
+                let pops = if matches!(number, LOOP_START | LOOP_END) { random.word() & 7 } else { pops as u32 };
+                control::pair(number, target as u32, pops, 0, random)
+            }
+        };
+        pack.words[2 * position..2 * position + 2].copy_from_slice(&pair);
+    }
+    pack.words[2 * end + 1] |= 1 << 21;
+    let deepest = course.before.iter().map(Vec::len).max().unwrap_or(0);
+    pack.card.stack = random.between(deepest, (deepest + 2).min(32)) as u32;
+    pack.card.quads = (pack.words.len() / 2) as u32;
+    pack
+}
+
+impl Pack {
+    /// Now and then a few words that nothing opens.
+    fn gap(&mut self, random: &mut Random) -> usize {
+        if random.once_in(8) {
+            self.words.extend([random.word(), random.word()]);
+        }
+        self.words.len() / 2
+    }
+
+    fn fetch_clause(&mut self, number: u32, size: Size, random: &mut Random) -> [u32; 2] {
+        let start = self.gap(random);
+        let count = random.between(1, size.fetches.min(16));
+        for _ in 0..count {
+            self.words.extend(control::fetch(number, self.card.gprs, random));
+        }
+        self.fetches.push((start, 2 * count));
+        control::pair(number, start as u32, random.word() & 7, count as u32 - 1, random)
+    }
+
+    fn alu_clause(&mut self, number: u32, size: Size, random: &mut Random) -> [u32; 2] {
+        let Card { kind, gprs, temps, consts, .. } = self.card;
+        let (mode0, mode1) = (random.word() & 3, random.word() & 3);
+        let setting = Setting { kind, push_before: number == 9, gprs, temps, consts, mode0, mode1 };
+        let start = self.gap(random);
+        let slots = random.between(1, size.slots.min(128));
+        self.words.extend(clause(slots, &setting, random));
+        self.alu.push((start, slots));
+        control::alu(number, start, slots, mode0, mode1, random)
+    }
+}

@@ -1,0 +1,6 @@
+//! A plain judge beside the proved one: comparison and times.
+
+pub mod generate;
+pub mod plain;
+pub mod proved;
+pub mod timing;

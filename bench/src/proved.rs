@@ -1,0 +1,47 @@
+//! The proved functions, from the archive that `rt staticlib exports` makes. They ask nothing of their caller.
+
+use crate::plain::Kind;
+
+unsafe extern "C" {
+    fn zlatomruk_alu_clause(
+        words: *const u32, words_len: usize, start: usize, slots: usize, push_before: u32, kind: u32, gprs: u32, temps: u32,
+        consts: u32, modes: u32,
+    ) -> u64;
+}
+
+/// `plain::alu_clause`, proved.
+#[allow(clippy::too_many_arguments)]
+#[inline]
+pub fn alu_clause(
+    words: &[u32], start: usize, slots: usize, push_before: bool, kind: Kind, gprs: u32, temps: u32, consts: u32, mode0: u32,
+    mode1: u32,
+) -> (u32, usize) {
+    // The slice is passed as the pointer and length that it is made of; the callee only reads it.
+    let answer = unsafe {
+        zlatomruk_alu_clause(
+            words.as_ptr(),
+            words.len(),
+            start,
+            slots,
+            u32::from(push_before),
+            kind as u32,
+            gprs,
+            temps,
+            consts,
+            mode0 + 4 * mode1,
+        )
+    };
+    ((answer & 0xFF) as u32, (answer >> 32) as usize)
+}
+
+unsafe extern "C" {
+    fn zlatomruk_judge(card: *const u8, card_len: usize, words: *const u32, words_len: usize) -> u64;
+}
+
+/// `plain::judge`, proved.
+#[inline]
+pub fn judge(card: &[u8], words: &[u32]) -> (u32, usize, usize) {
+    // As above: two slices, only read.
+    let answer = unsafe { zlatomruk_judge(card.as_ptr(), card.len(), words.as_ptr(), words.len()) };
+    ((answer & 0xFF) as u32, (answer >> 8 & 0xFF_FFFF) as usize, (answer >> 32) as usize)
+}
