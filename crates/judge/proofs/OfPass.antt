@@ -63,19 +63,19 @@ module _ (card : Card) (w : List ℕ) (e p : ℕ) {low high : ℕ} {c : Control}
 -- ---- the places in a row
 
 -- the first pass stands before p: nothing is broken below p, and the stacks up to there are held
-pub record Passing (card : Card) (w : List ℕ) (e : ℕ) (tops marks : List ℕ) (s : Frames) (p : ℕ) : Type 0 where
+pub record Passing (card : Card) (w : List ℕ) (e : ℕ) (tops₀ marks₀ tops marks : List ℕ) (s : Frames) (p : ℕ) : Type 0 where
   pub within : p ≤ suc e
-  pub tops-room : length tops ≡ 512
-  pub marks-room : length marks ≡ 512
+  pub tops-room : length tops ≡ length tops₀
+  pub marks-room : length marks ≡ length marks₀
   pub clean-below : firstBroken (below (firstChecks card w e) p) ≡ Accepted
   pub ready : Ready (flowAt w) (card .stack) p s tops marks
 
-pub passing-none : (card : Card) (w : List ℕ) (e : ℕ) (tops marks : List ℕ) → length tops ≡ 512 → length marks ≡ 512 → Passing card w e tops marks (frames 0 0 0) 0
-passing-none card w e tops marks a b =
+pub passing-none : (card : Card) (w : List ℕ) (e : ℕ) (tops marks : List ℕ) → Passing card w e tops marks tops marks (frames 0 0 0) 0
+passing-none card w e tops marks =
     record {
       within = omega arith;
-      tops-room = a;
-      marks-room = b;
+      tops-room = refl;
+      marks-room = refl;
       clean-below = below-none (firstChecks card w e);
       ready = record { held = held-start (flowAt w); not-deep = omega arith; recorded = recorded-none (flowAt w) tops marks };
     }
@@ -83,14 +83,14 @@ passing-none card w e tops marks a b =
 never-accepted : {r : Rule} {p : Place} {s : Slots} → Refused r p s ≡ Accepted → ⊥
 never-accepted h = let z : _≡_ {A = ℕ} 0 1 = cc in omega arith
 
-module _ (card : Card) (w : List ℕ) (e : ℕ) (tops marks : List ℕ) (s : Frames) (p : ℕ) (g : Passing card w e tops marks s p) where
+module _ (card : Card) (w : List ℕ) (e : ℕ) (tops₀ marks₀ tops marks : List ℕ) (s : Frames) (p : ℕ) (g : Passing card w e tops₀ marks₀ tops marks s p) where
   pub passing-found : {a : Ahead} {r : Rule} {at : Place} {slot : Slots} {X : Type 0} → p ≤ e → Found card w e p a → a ≡ Broken r at slot
       → (Refused r at slot ≡ firstBroken (below (firstChecks card w e) (suc e))) × (Refused r at slot ≡ Accepted → X)
   passing-found l h q =
       (sym (below-found (firstChecks card w e) (suc e) p (omega arith) (g .clean-below) (subst (Found card w e p) q h)), λ x. absurd (never-accepted x))
 
-  pub passing-next : {a : Ahead} {f : Frames} → e < 512 → p ≤ e → Found card w e p a → a ≡ Next f → Passing card w e (set tops p (s .top)) (set marks p (s .marks)) f (p + 1)
-  passing-next {a} {f} m l h q =
+  pub passing-next : {a : Ahead} {f : Frames} → e < length tops₀ → e < length marks₀ → p ≤ e → Found card w e p a → a ≡ Next f → Passing card w e tops₀ marks₀ (set tops p (s .top)) (set marks p (s .marks)) f (p + 1)
+  passing-next {a} {f} m n l h q =
       let k : (firstBroken (firstChecks card w e p) ≡ Accepted) × Held (flowAt w) (suc p) f × (f .depth ≤ card .stack) = subst (Found card w e p) q h in
       rw add-one
       record {

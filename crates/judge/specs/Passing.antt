@@ -23,8 +23,8 @@ pub record InWords (w : List ℕ) (e : ℕ) : Type 0 where
 -- and the rows have room for it
 pub record Section (w : List ℕ) (e : ℕ) (tops marks : List ℕ) : Type 0 where
   pub in-words : InWords w e
-  pub tops-room : length tops ≡ 512
-  pub marks-room : length marks ≡ 512
+  pub tops-room : e < length tops
+  pub marks-room : e < length marks
 
 -- p is a place of the section
 pub record Within (w : List ℕ) (e p : ℕ) : Type 0 where

@@ -78,17 +78,36 @@ fn refused_whole(rule: Rule) -> Verdict
     }
 }
 
-// The section ends at pair `e`.
+// The section ends at pair `e`. Most sections are short, and rows for a long one would cost more than judging them.
 fn both_passes(card: Card, words: &[u32], e: usize) -> Verdict
     requires { ⌜ InWords (now words) e ⌝ }
     ensures { λ r. ⌜ r ≡ firstBroken (passes card (now (words .entry)) e) ⌝ }
 {
+    if e < 32 {
+        let mut tops = [0usize; 32];
+        let mut marks = [0usize; 32];
+        return passes_with(card, words, e, &mut tops, &mut marks);
+    }
     let mut tops = [0usize; 512];
     let mut marks = [0usize; 512];
-    let first = first_pass(card, words, e, &mut tops, &mut marks);
+    passes_with(card, words, e, &mut tops, &mut marks)
+}
+
+// The two passes, with rows for the section's places.
+fn passes_with(
+    card: Card,
+    words: &[u32],
+    e: usize,
+    tops: &mut [usize],
+    marks: &mut [usize],
+) -> Verdict
+    requires { ⌜ Section (now words) e (now tops) (now marks) ⌝ }
+    ensures { λ r. ⌜ r ≡ firstBroken (passes card (now (words .entry)) e) ⌝ }
+{
+    let first = first_pass(card, words, e, &mut tops[..], &mut marks[..]);
     match first {
         Verdict::Refused { rule, place, slot } => Verdict::Refused { rule, place, slot },
-        Verdict::Accepted => flow::second_pass(words, e + 1, &tops, &marks),
+        Verdict::Accepted => flow::second_pass(words, e + 1, &tops[..], &marks[..]),
     }
 }
 

@@ -1,0 +1,6 @@
+-- The laws that proofs cite, here and in the crates above.
+pub mod OfWords
+pub mod OfInput
+pub mod OfReading
+pub mod OfRelease
+pub mod Examples
