@@ -36,7 +36,9 @@ use Rattle.clauses.proofs.OfRead.{size-few}
 
 -- ---- in the buffer
 
-pub inside : (n : ℕ) (s : Quadwords) (f : Slots) → n < 2 ^ 64 → isAtMost (rangeEnd s (slotsLength f)) (wholeQuadwords (words n)) ≡ insideBuffer n s f
+pub inside :
+    (n : ℕ) (s : Quadwords) (f : Slots) → n < 2 ^ 64
+    → isAtMost (rangeEnd s (slotsLength f)) (wholeQuadwords (words n)) ≡ insideBuffer n s f
 unfolding insideBuffer
 inside n s f h = by (leb (2 * s .0 + 2 * f .0) n) refl
   where
@@ -45,7 +47,9 @@ inside n s f h = by (leb (2 * s .0 + 2 * f .0) n) refl
     by false e = lt-leb (capped (s .0 + f .0)) (n / 2) (omega (arith, leb-false (2 * s .0 + 2 * f .0) n e))
 
 -- what the code knows once the clause was found to lie in the buffer: where its first word is, and how far it reaches
-pub frame : (w : List ℕ) (s : Quadwords) (n : Slots) (t : Bool) (first : Words) → length w < 2 ^ 64 → t ≡ insideBuffer (length w) s n → not t ≡ false → first ≡ lowWord s → (first .0 ≡ 2 * s .0) × (2 * s .0 + 2 * n .0 ≤ length w)
+pub frame :
+    (w : List ℕ) (s : Quadwords) (n : Slots) (t : Bool) (first : Words) → length w < 2 ^ 64 → t ≡ insideBuffer (length w) s n
+    → not t ≡ false → first ≡ lowWord s → (first .0 ≡ 2 * s .0) × (2 * s .0 + 2 * n .0 ≤ length w)
 unfolding insideBuffer
 frame w s n t first h e f g =
     let reach : 2 * s .0 + 2 * n .0 ≤ length w = leb-true (2 * s .0 + 2 * n .0) (length w) (sym e ∙ not-false t f) in
@@ -53,21 +57,28 @@ frame w s n t first h e f g =
 
 -- ---- PUSH_BEFORE's count
 
-pub push-refused : (push : Bool) (count : Count) (place : Quadwords) (one : Bool) (v : Verdict) → one ≡ isOne count → (push && not one) ≡ true → v ≡ Refused IssueLimit (Quadword place) (slots 0) → v ≡ pushVerdict push count place
+pub push-refused :
+    (push : Bool) (count : Count) (place : Quadwords) (one : Bool) (v : Verdict) → one ≡ isOne count → (push && not one) ≡ true
+    → v ≡ Refused IssueLimit (Quadword place) (slots 0) → v ≡ pushVerdict push count place
 unfolding pushVerdict
 push-refused push count place one v e h f = f ∙ rw ((λ i. push && not (sym e i)) ∙ h)
 
-pub push-passed : (push : Bool) (count : Count) (place : Quadwords) (one : Bool) → one ≡ isOne count → (push && not one) ≡ false → Accepted ≡ pushVerdict push count place
+pub push-passed :
+    (push : Bool) (count : Count) (place : Quadwords) (one : Bool) → one ≡ isOne count → (push && not one) ≡ false
+    → Accepted ≡ pushVerdict push count place
 unfolding pushVerdict
 push-passed push count place one e h = rw ((λ i. push && not (sym e i)) ∙ h)
 
-push-check : (push : Bool) (n : ℕ) (place : Quadwords) → pushVerdict push (countOf n) place ≡ firstBroken (check IssueLimit (Quadword place) (slots 0) (badPush push n) ∷ [])
+push-check :
+    (push : Bool) (n : ℕ) (place : Quadwords)
+    → pushVerdict push (countOf n) place ≡ firstBroken (check IssueLimit (Quadword place) (slots 0) (badPush push n) ∷ [])
 unfolding pushVerdict badPush firstBroken
 push-check push n place = rw (counts-one n)
 
 -- ---- what the code reads off a group that it has read
 
-module _ (limits : Limits) (w : List ℕ) (first n g : ℕ) (group : Group) (e : group ≡ groupOf limits w (wordOf first g) (n - g)) where
+module _ (limits : Limits) (w : List ℕ) (first n g : ℕ) (group : Group)
+    (e : group ≡ groupOf limits w (wordOf first g) (n - g)) where
   pub size-is : group .size ≡ sizeOf w (wordOf first g) (n - g)
   unfolding groupOf
   size-is = ap (λ (x : Group). x .size) e
@@ -81,7 +92,9 @@ module _ (limits : Limits) (w : List ℕ) (first n g : ℕ) (group : Group) (e :
   size-small = let f = size-few w (wordOf first g) (n - g) in (omega (arith, size-is, f .0), omega (arith, size-is, f .1))
 
   -- where a fault shows
-  pub behind-few : (mayKill : Bool) {fault : GroupFault} {r : Rule} {behind : ℕ} → fault ≡ faultOf (group .seen) (group .size) mayKill → fault ≡ Broken r behind → behind ≤ group .size
+  pub behind-few :
+      (mayKill : Bool) {fault : GroupFault} {r : Rule} {behind : ℕ} → fault ≡ faultOf (group .seen) (group .size) mayKill
+      → fault ≡ Broken r behind → behind ≤ group .size
   unfolding groupOf
   behind-few mayKill {r = r} {behind = behind} f q =
       let b : faultOf (seenOf limits (lowOf w (wordOf first g)) (highOf w (wordOf first g)) (sizeOf w (wordOf first g) (n - g))) (sizeOf w (wordOf first g) (n - g)) mayKill ≡ Broken r behind =
@@ -125,7 +138,9 @@ module _ (pixel : Bool) (limits : Limits) (w : List ℕ) (place : Quadwords) (fi
       }
 
   -- the groups from g on, where one starts there
-  from-here : (g k : ℕ) → g < n → n - g ≤ k → groupsFrom w first n k g ≡ g ∷ cond (badShape w (wordOf first g) (n - g)) [] (groupsFrom w first n (k - 1) (g + span g))
+  from-here :
+      (g k : ℕ) → g < n → n - g ≤ k
+      → groupsFrom w first n k g ≡ g ∷ cond (badShape w (wordOf first g) (n - g)) [] (groupsFrom w first n (k - 1) (g + span g))
   unfolding groupsFrom
   from-here g zero l m = absurd (omega arith)
   from-here g (suc k) l m = let e : suc k - 1 ≡ k = omega arith in rw (lt-ltb g n l, e) refl
@@ -150,45 +165,70 @@ module _ (pixel : Bool) (limits : Limits) (w : List ℕ) (place : Quadwords) (fi
     good-shape h m = rw (ne-eqb (size g) 0 (λ z. h (sized ∙ z)), le-ltb (n - g) (span g) (omega (arith, spans)))
 
     module _ {count : Count} (a : Along count g) (l : g < n) where
-      here : verdict (groupsOf w first n) ≡ verdict (g ∷ cond (badShape w (wordOf first g) (n - g)) [] (groupsFrom w first n (a .fuel - 1) (g + span g)))
+      here :
+          verdict (groupsOf w first n) ≡ verdict
+          (g ∷ cond (badShape w (wordOf first g) (n - g)) [] (groupsFrom w first n (a .fuel - 1) (g + span g)))
       here = a .rest ∙ ap verdict (from-here g (a .fuel) l (a .enough))
 
-      refuses-shape : badShape w (wordOf first g) (n - g) ≡ true → verdict (groupsOf w first n) ≡ Refused GroupShape (Quadword place) (slots g)
+      refuses-shape :
+          badShape w (wordOf first g) (n - g) ≡ true
+          → verdict (groupsOf w first n) ≡ Refused GroupShape (Quadword place) (slots g)
       unfolding checksOf groupChecks
       refuses-shape h = here ∙ hit (check GroupShape (Quadword place) (slots g) (badShape w (wordOf first g) (n - g))) _ h
 
       pub along-no-size : group .size ≡ 0 → verdict (groupsOf w first n) ≡ Refused GroupShape (Quadword place) (slots g)
       along-no-size h = refuses-shape (no-size h)
 
-      pub along-too-long : n - g < group .size + group .seen .literals → verdict (groupsOf w first n) ≡ Refused GroupShape (Quadword place) (slots g)
+      pub along-too-long :
+          n - g < group .size + group .seen .literals
+          → verdict (groupsOf w first n) ≡ Refused GroupShape (Quadword place) (slots g)
       along-too-long h = refuses-shape (too-long h)
 
-      module _ (h : group .size ≡ 0 → ⊥) (m : group .size + group .seen .literals ≤ n - g) {fault : GroupFault} (f : fault ≡ faultOf (group .seen) (group .size) (pixel && eqb (g + (group .size + group .seen .literals)) n)) where
-        fault-is : fault ≡ faultOf (seenOf limits (lowOf w (wordOf first g)) (highOf w (wordOf first g)) (size g)) (size g) (mayKill pixel n (g + span g))
+      module _ (h : group .size ≡ 0 → ⊥) (m : group .size + group .seen .literals ≤ n - g) {fault : GroupFault}
+          (f : fault ≡ faultOf (group .seen) (group .size) (pixel && eqb (g + (group .size + group .seen .literals)) n)) where
+        fault-is :
+            fault ≡ faultOf (seenOf limits (lowOf w (wordOf first g)) (highOf w (wordOf first g)) (size g)) (size g)
+            (mayKill pixel n (g + span g))
         unfolding groupOf
         fault-is = f ∙ (λ i. faultOf (e i .seen) (e i .size) (pixel && eqb (g + spans i) n))
 
         -- past the shape: the group's rules, then the groups behind it
-        past : verdict (groupsOf w first n) ≡ andThen (answer place g fault) (verdict (groupsFrom w first n (a .fuel - 1) (g + span g)))
+        past :
+            verdict (groupsOf w first n) ≡ andThen (answer place g fault)
+            (verdict (groupsFrom w first n (a .fuel - 1) (g + span g)))
         unfolding checksOf groupChecks
         past =
             here
             ∙ miss (check GroupShape (Quadword place) (slots g) (badShape w (wordOf first g) (n - g))) _ (good-shape h m)
-            ∙ ap (λ (b : Bool). firstBroken (ruleChecks place g limits (mayKill pixel n (g + span g)) (lowOf w (wordOf first g)) (highOf w (wordOf first g)) (size g) ++ checksOf pixel limits w place first n (cond b [] (groupsFrom w first n (a .fuel - 1) (g + span g))))) (good-shape h m)
-            ∙ joined (ruleChecks place g limits (mayKill pixel n (g + span g)) (lowOf w (wordOf first g)) (highOf w (wordOf first g)) (size g)) (checksOf pixel limits w place first n (groupsFrom w first n (a .fuel - 1) (g + span g)))
+            ∙ ap
+            (λ (b : Bool). firstBroken (ruleChecks place g limits (mayKill pixel n (g + span g)) (lowOf w (wordOf first g)) (highOf w (wordOf first g)) (size g) ++ checksOf pixel limits w place first n (cond b [] (groupsFrom w first n (a .fuel - 1) (g + span g)))))
+            (good-shape h m)
+            ∙ joined
+            (ruleChecks place g limits (mayKill pixel n (g + span g)) (lowOf w (wordOf first g)) (highOf w (wordOf first g)) (size g))
+            (checksOf pixel limits w place first n (groupsFrom w first n (a .fuel - 1) (g + span g)))
             ∙ ap (λ (v : Verdict). andThen v (verdict (groupsFrom w first n (a .fuel - 1) (g + span g))))
             (group-answer place g limits (mayKill pixel n (g + span g)) (lowOf w (wordOf first g)) (highOf w (wordOf first g)) (size g) ∙ ap (answer place g) (sym fault-is))
 
-        pub along-fault : {r : Rule} {behind : ℕ} → fault ≡ Broken r behind → verdict (groupsOf w first n) ≡ Refused r (Quadword place) (slots (g + behind))
-        along-fault q = past ∙ ap (λ (x : GroupFault). andThen (answer place g x) (verdict (groupsFrom w first n (a .fuel - 1) (g + span g)))) q
+        pub along-fault :
+            {r : Rule} {behind : ℕ} → fault ≡ Broken r behind
+            → verdict (groupsOf w first n) ≡ Refused r (Quadword place) (slots (g + behind))
+        along-fault q =
+            past
+            ∙ ap (λ (x : GroupFault). andThen (answer place g x) (verdict (groupsFrom w first n (a .fuel - 1) (g + span g)))) q
 
-        setters-here : settersIn w first n (groupsFrom w first n (a .fuel) g) ≡ setters (highOf w (wordOf first g)) (size g) + settersIn w first n (groupsFrom w first n (a .fuel - 1) (g + span g))
+        setters-here :
+            settersIn w first n (groupsFrom w first n (a .fuel) g) ≡ setters (highOf w (wordOf first g)) (size g) + settersIn w
+            first n (groupsFrom w first n (a .fuel - 1) (g + span g))
         unfolding settersIn
         setters-here =
             ap (settersIn w first n) (from-here g (a .fuel) l (a .enough))
-            ∙ ap (λ (b : Bool). setters (highOf w (wordOf first g)) (size g) + settersIn w first n (cond b [] (groupsFrom w first n (a .fuel - 1) (g + span g)))) (good-shape h m)
+            ∙ ap
+            (λ (b : Bool). setters (highOf w (wordOf first g)) (size g) + settersIn w first n (cond b [] (groupsFrom w first n (a .fuel - 1) (g + span g))))
+            (good-shape h m)
 
-        pub along-next : {own more : Count} → fault ≡ Clean → own ≡ group .seen .issues .setters → more ≡ together count own → Along more (g + (group .size + group .seen .literals))
+        pub along-next :
+            {own more : Count} → fault ≡ Clean → own ≡ group .seen .issues .setters → more ≡ together count own
+            → Along more (g + (group .size + group .seen .literals))
         unfolding groupOf seenOf issuesOf
         along-next q o t =
             subst (Along _) (ap (λ (x : ℕ). g + x) (sym spans))
@@ -202,7 +242,11 @@ module _ (pixel : Bool) (limits : Limits) (w : List ℕ) (place : Quadwords) (fi
                   ∙ (λ i. together (a .count-is i) ((o ∙ (λ j. e j .seen .issues .setters)) i))
                   ∙ counted-together (a .passed) (setters (highOf w (wordOf first g)) (size g));
               total = omega (arith, a .total, setters-here);
-              rest = past ∙ ap (λ (x : GroupFault). andThen (answer place g x) (verdict (groupsFrom w first n (a .fuel - 1) (g + span g)))) q;
+              rest =
+                  past
+                  ∙ ap
+                  (λ (x : GroupFault). andThen (answer place g x) (verdict (groupsFrom w first n (a .fuel - 1) (g + span g))))
+                  q;
             })
 
   none-left : (k g : ℕ) → n ≤ g → groupsFrom w first n k g ≡ []
@@ -212,8 +256,11 @@ module _ (pixel : Bool) (limits : Limits) (w : List ℕ) (place : Quadwords) (fi
 
   -- ---- the whole clause
 
-  module _ (kind : Kind) (push : Bool) (s : Quadwords) (f : Slots) (i : insideBuffer (length w) s f ≡ true) (p : pixel ≡ isPixel kind) (a : first ≡ 2 * s .0) (b : n ≡ f .0) where
-    whole : firstBroken (clauseChecks kind push limits w place s f) ≡ firstBroken (checksOf pixel limits w place first n (groupsOf w first n) ++ (check IssueLimit (Quadword place) (slots 0) (badPush push (settersIn w first n (groupsOf w first n))) ∷ []))
+  module _ (kind : Kind) (push : Bool) (s : Quadwords) (f : Slots) (i : insideBuffer (length w) s f ≡ true)
+      (p : pixel ≡ isPixel kind) (a : first ≡ 2 * s .0) (b : n ≡ f .0) where
+    whole :
+        firstBroken (clauseChecks kind push limits w place s f) ≡ firstBroken
+        (checksOf pixel limits w place first n (groupsOf w first n) ++ (check IssueLimit (Quadword place) (slots 0) (badPush push (settersIn w first n (groupsOf w first n))) ∷ []))
     unfolding clauseChecks
     whole =
         rw i
@@ -222,10 +269,14 @@ module _ (pixel : Bool) (limits : Limits) (w : List ℕ) (place : Quadwords) (fi
         (checksOf (sym p j) limits w place (sym a j) (sym b j) (groupsOf w (sym a j) (sym b j))
         ++ (check IssueLimit (Quadword place) (slots 0) (badPush push (settersIn w (sym a j) (sym b j) (groupsOf w (sym a j) (sym b j)))) ∷ [])))
 
-    pub clause-refused : {v : Verdict} {r : Rule} {x : ℕ} → verdict (groupsOf w first n) ≡ Refused r (Quadword place) (slots x) → v ≡ Refused r (Quadword place) (slots x) → v ≡ firstBroken (clauseChecks kind push limits w place s f)
+    pub clause-refused :
+        {v : Verdict} {r : Rule} {x : ℕ} → verdict (groupsOf w first n) ≡ Refused r (Quadword place) (slots x)
+        → v ≡ Refused r (Quadword place) (slots x) → v ≡ firstBroken (clauseChecks kind push limits w place s f)
     clause-refused h e = e ∙ sym (whole ∙ joined-refused (checksOf pixel limits w place first n (groupsOf w first n)) _ h)
 
-    pub clause-done : {v : Verdict} {count : Count} {g : ℕ} → Along count g → n ≤ g → v ≡ pushVerdict push count place → v ≡ firstBroken (clauseChecks kind push limits w place s f)
+    pub clause-done :
+        {v : Verdict} {count : Count} {g : ℕ} → Along count g → n ≤ g → v ≡ pushVerdict push count place
+        → v ≡ firstBroken (clauseChecks kind push limits w place s f)
     unfolding settersIn checksOf firstBroken
     clause-done {count = count} {g = g} z l e =
         let last = none-left (z .fuel) g l in
@@ -236,6 +287,8 @@ module _ (pixel : Bool) (limits : Limits) (w : List ℕ) (place : Quadwords) (fi
         ∙ push-check push (settersIn w first n (groupsOf w first n)) place
         ∙ sym (whole ∙ joined-clean (checksOf pixel limits w place first n (groupsOf w first n)) _ (z .rest ∙ ap verdict last))
 
-pub outside : (kind : Kind) (push : Bool) (limits : Limits) (w : List ℕ) (place s : Quadwords) (n : Slots) → insideBuffer (length w) s n ≡ false → Accepted ≡ firstBroken (clauseChecks kind push limits w place s n)
+pub outside :
+    (kind : Kind) (push : Bool) (limits : Limits) (w : List ℕ) (place s : Quadwords) (n : Slots)
+    → insideBuffer (length w) s n ≡ false → Accepted ≡ firstBroken (clauseChecks kind push limits w place s n)
 unfolding clauseChecks firstBroken
 outside kind push limits w place s n h = rw h

@@ -18,7 +18,9 @@ use Rattle.clauses.specs.Clause.{lowOf, highOf, sizeOf, spanOf, wordOf, 
 
 module _ (pixel : Bool) (limits : Limits) (w : List ℕ) (place : Quadwords) (first n : ℕ) where
   -- each group of a list of groups that breaks nothing breaks nothing
-  each-group : (gs : List ℕ) → firstBroken (checksOf pixel limits w place first n gs) ≡ Accepted → (g : ℕ) → List·Memᴰ g gs → firstBroken (groupChecks pixel limits w place first n g) ≡ Accepted
+  each-group :
+      (gs : List ℕ) → firstBroken (checksOf pixel limits w place first n gs) ≡ Accepted → (g : ℕ) → List·Memᴰ g gs
+      → firstBroken (groupChecks pixel limits w place first n g) ≡ Accepted
   unfolding checksOf
   each-group [] h g m = absurd (List·Memᴰ·not-nil m)
   each-group (k ∷ gs) h g m =
@@ -28,7 +30,11 @@ module _ (pixel : Bool) (limits : Limits) (w : List ℕ) (place : Quadwords) (fi
       (List·Memᴰ·cases-cons m)
 
 -- the names of the j-th instruction of the group at slot g, for every group of the clause and every instruction of the group
-pub accepted-granted : (kind : Kind) (push : Bool) (limits : Limits) (w : List ℕ) (place s : Quadwords) (n : Slots) → insideBuffer (length w) s n ≡ true → firstBroken (clauseChecks kind push limits w place s n) ≡ Accepted → (g : ℕ) → List·Memᴰ g (groupsOf w (2 * s .0) (n .0)) → (j : ℕ) → j < sizeAt w s (n .0) g → (x : Name) → List·Memᴰ x (namedAt w s g j) → granted limits x ≡ true
+pub accepted-granted :
+    (kind : Kind) (push : Bool) (limits : Limits) (w : List ℕ) (place s : Quadwords) (n : Slots)
+    → insideBuffer (length w) s n ≡ true → firstBroken (clauseChecks kind push limits w place s n) ≡ Accepted → (g : ℕ)
+    → List·Memᴰ g (groupsOf w (2 * s .0) (n .0)) → (j : ℕ) → j < sizeAt w s (n .0) g → (x : Name) → List·Memᴰ x (namedAt w s g j)
+    → granted limits x ≡ true
 unfolding clauseChecks groupChecks sizeAt namedAt
 accepted-granted kind push limits w place s n i h g m j l x =
     let clean = left-clean (checksOf (isPixel kind) limits w place (2 * s .0) (n .0) (groupsOf w (2 * s .0) (n .0))) _ (rw i at h) in

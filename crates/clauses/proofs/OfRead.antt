@@ -24,7 +24,9 @@ first-high w at = let e : at + 1 ≡ at + 2 * 0 + 1 = omega arith in ap (λ (k :
 
 module _ (w : List ℕ) (at left : ℕ) where
   -- one more word of the search
-  look : (j k : ℕ) → sizeFrom w at left j (suc k) ≡ cond (ltb j left) (cond (isLast (lowOf w at j)) (suc j) (sizeFrom w at left (suc j) k)) 0
+  look :
+      (j k : ℕ)
+      → sizeFrom w at left j (suc k) ≡ cond (ltb j left) (cond (isLast (lowOf w at j)) (suc j) (sizeFrom w at left (suc j) k)) 0
   unfolding sizeFrom
   look j k = refl
 
@@ -37,7 +39,9 @@ module _ (w : List ℕ) (at left : ℕ) where
   size-here : (j : ℕ) → j < 5 → j < left → isLast (lowOf w at j) ≡ true → sizeFrom w at left j (5 - j) ≡ j + 1
   size-here j l m e = rw (left-over j l, look j (5 - (j + 1)), lt-ltb j left m, e) (sym (add-one j))
 
-  size-next : (j : ℕ) → j < 5 → j < left → isLast (lowOf w at j) ≡ false → sizeFrom w at left j (5 - j) ≡ sizeFrom w at left (j + 1) (5 - (j + 1))
+  size-next :
+      (j : ℕ) → j < 5 → j < left → isLast (lowOf w at j) ≡ false
+      → sizeFrom w at left j (5 - j) ≡ sizeFrom w at left (j + 1) (5 - (j + 1))
   size-next j l m e = rw (left-over j l, look j (5 - (j + 1)), lt-ltb j left m, e, add-one j)
 
   size-five : (j : ℕ) → 5 ≤ j → j ≤ 5 → sizeFrom w at left j (5 - j) ≡ 0
@@ -50,7 +54,9 @@ module _ (w : List ℕ) (at left : ℕ) where
   size-in zero j = (omega arith, omega arith)
   size-in (suc k) j = by (ltb j left) refl (isLast (lowOf w at j)) (size-in k (suc j))
     where
-      by : (b : Bool) → ltb j left ≡ b → (d : Bool) → (sizeFrom w at left (suc j) k ≤ suc j + k) × (sizeFrom w at left (suc j) k ≤ left)
+      by :
+          (b : Bool) → ltb j left ≡ b → (d : Bool)
+          → (sizeFrom w at left (suc j) k ≤ suc j + k) × (sizeFrom w at left (suc j) k ≤ left)
           → (cond b (cond d (suc j) (sizeFrom w at left (suc j) k)) 0 ≤ j + suc k) × (cond b (cond d (suc j) (sizeFrom w at left (suc j) k)) 0 ≤ left)
       by false e d r = (omega arith, omega arith)
       by true e true r = (omega arith, omega (arith, ltb-true j left e))
@@ -79,7 +85,8 @@ module _ (w : List ℕ) (at left : ℕ) where
     unfolding groupOf
     none-is e f =
         e
-        ∙ (λ i. record { size = sym f i; seen = (seen-none limits (lowOf w at) (highOf w at) ∙ (λ n. seenOf limits (lowOf w at) (highOf w at) (sym f n))) i })
+        ∙
+        (λ i. record { size = sym f i; seen = (seen-none limits (lowOf w at) (highOf w at) ∙ (λ n. seenOf limits (lowOf w at) (highOf w at) (sym f n))) i })
 
     module _ {first : ℕ} {seen : Seen} {j : ℕ} (r : Reading first seen j) where
       pub reading-short : {g : Group} → j < 5 → left ≤ j → g ≡ noGroup → g ≡ groupOf limits w at left
@@ -88,7 +95,8 @@ module _ (w : List ℕ) (at left : ℕ) where
       pub reading-five : {g : Group} → 5 ≤ j → g ≡ noGroup → g ≡ groupOf limits w at left
       reading-five l e = none-is e (r .size-is ∙ size-five j l (r .few))
 
-      module _ {low high : ℕ} {after : Seen} (l : j < 5) (m : j < left) (p : low ≡ lowOf w at j) (q : high ≡ highOf w at j) (a : after ≡ nextSeen limits j first low high seen) where
+      module _ {low high : ℕ} {after : Seen} (l : j < 5) (m : j < left) (p : low ≡ lowOf w at j) (q : high ≡ highOf w at j)
+          (a : after ≡ nextSeen limits j first low high seen) where
         pub seen-more : after ≡ seenOf limits (lowOf w at) (highOf w at) (j + 1)
         seen-more =
             a

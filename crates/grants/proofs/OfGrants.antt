@@ -44,7 +44,9 @@ granted-joined : (l : Limits) (a b : List Name) → allGranted l (a ++ b) ≡ al
 granted-joined l [] b = refl
 granted-joined l (n ∷ a) b = by (granted l n) (granted-joined l a b)
   where
-    by : (t : Bool) → allGranted l (a ++ b) ≡ allGranted l a && allGranted l b → t && allGranted l (a ++ b) ≡ t && allGranted l a && allGranted l b
+    by :
+        (t : Bool) → allGranted l (a ++ b) ≡ allGranted l a && allGranted l b
+        → t && allGranted l (a ++ b) ≡ t && allGranted l a && allGranted l b
     by true h = h
     by false h = refl
 
@@ -59,7 +61,9 @@ pub all-joined : (l : Limits) (a b : List Name) → allGranted l (a ++ b) ≡ (a
 all-joined l [] b = refl
 all-joined l (n ∷ a) b = by (granted l n) (all-joined l a b)
   where
-    by : (t : Bool) → allGranted l (a ++ b) ≡ (allGranted l a && allGranted l b) → (t && allGranted l (a ++ b)) ≡ ((t && allGranted l a) && allGranted l b)
+    by :
+        (t : Bool) → allGranted l (a ++ b) ≡ (allGranted l a && allGranted l b)
+        → (t && allGranted l (a ++ b)) ≡ ((t && allGranted l a) && allGranted l b)
     by true h = h
     by false h = refl
 
@@ -107,7 +111,9 @@ least-bound s g h = by (ltb s g) refl
     by true e = lt-ltb s (min g 128) (omega (arith, ltb-true s g e))
     by false e = le-ltb s (min g 128) (omega (arith, ltb-false s g e))
 
-register-test : (l : Limits) (s : ℕ) → s < 128 → ((ltb s (min (l .gprs) 128) || (leb (128 - l .temps) s && true)) || false) ≡ (granted l (aluRegister s) && true)
+register-test :
+    (l : Limits) (s : ℕ) → s < 128
+    → ((ltb s (min (l .gprs) 128) || (leb (128 - l .temps) s && true)) || false) ≡ (granted l (aluRegister s) && true)
 register-test l s h = rw (least-bound s (l .gprs) h) (by (ltb s (l .gprs)) (leb (128 - l .temps) s))
   where
     by : (a b : Bool) → ((a || (b && true)) || false) ≡ ((a || b) && true)
@@ -130,7 +136,9 @@ module _ (l : Limits) (s : ℕ) where
       and-none true = refl
       and-none false = refl
 
-  in-order : (a : Bool) → ltb s 128 ≡ a → (b : Bool) → ltb s 160 ≡ b → (d : Bool) → ltb s 192 ≡ d → (e : Bool) → ltb s 256 ≡ e → tests ≡ allGranted l (sourceNames s)
+  in-order :
+      (a : Bool) → ltb s 128 ≡ a → (b : Bool) → ltb s 160 ≡ b → (d : Bool) → ltb s 192 ≡ d → (e : Bool) → ltb s 256 ≡ e
+      → tests ≡ allGranted l (sourceNames s)
   in-order true a b p d q e r =
       let h = ltb-true s 128 a in
       rw (a, lt-leb 128 s (omega arith), lt-leb 160 s (omega arith), lt-leb 192 s (omega arith), lt-leb 256 s (omega arith))
@@ -138,12 +146,14 @@ module _ (l : Limits) (s : ℕ) where
   in-order false a true p d q e r =
       let g = ltb-false s 128 a in
       let h = ltb-true s 160 p in
-      rw (no-register g, a, p, le-leb 128 s (omega arith), lt-leb 160 s (omega arith), lt-leb 192 s (omega arith), lt-leb 256 s (omega arith), same-bound s 128 (locked (l .mode0)) g)
+      rw
+      (no-register g, a, p, le-leb 128 s (omega arith), lt-leb 160 s (omega arith), lt-leb 192 s (omega arith), lt-leb 256 s (omega arith), same-bound s 128 (locked (l .mode0)) g)
       (drop-two (ltb (s - 128) (locked (l .mode0))))
   in-order false a false p true q e r =
       let g = ltb-false s 160 p in
       let h = ltb-true s 192 q in
-      rw (no-register (omega arith), a, p, q, le-leb 128 s (omega arith), le-ltb s (128 + locked (l .mode0)) (omega (arith, locked-most (l .mode0))), le-leb 160 s (omega arith), lt-leb 192 s (omega arith), lt-leb 256 s (omega arith), same-bound s 160 (locked (l .mode1)) g)
+      rw
+      (no-register (omega arith), a, p, q, le-leb 128 s (omega arith), le-ltb s (128 + locked (l .mode0)) (omega (arith, locked-most (l .mode0))), le-leb 160 s (omega arith), lt-leb 192 s (omega arith), lt-leb 256 s (omega arith), same-bound s 160 (locked (l .mode1)) g)
       (or-nothing (ltb (s - 160) (locked (l .mode1))))
   in-order false a false p false q true r =
       let g = ltb-false s 192 q in
@@ -151,7 +161,8 @@ module _ (l : Limits) (s : ℕ) where
       (or-kept ((leb 128 s && ltb s (128 + locked (l .mode0))) || (leb 160 s && ltb s (160 + locked (l .mode1)))))
   in-order false a false p false q false r =
       let g = ltb-false s 256 r in
-      rw (no-register (omega arith), a, p, q, r, le-leb 128 s (omega arith), le-ltb s (128 + locked (l .mode0)) (omega (arith, locked-most (l .mode0))), le-leb 160 s (omega arith), le-ltb s (160 + locked (l .mode1)) (omega (arith, locked-most (l .mode1))), le-leb 192 s (omega arith), le-leb 256 s g, same-bound s 256 (l .consts) g)
+      rw
+      (no-register (omega arith), a, p, q, r, le-leb 128 s (omega arith), le-ltb s (128 + locked (l .mode0)) (omega (arith, locked-most (l .mode0))), le-leb 160 s (omega arith), le-ltb s (160 + locked (l .mode1)) (omega (arith, locked-most (l .mode1))), le-leb 192 s (omega arith), le-leb 256 s g, same-bound s 256 (l .consts) g)
       (sym (and-true (ltb (s - 256) (l .consts))))
 
   pub source-tests : tests ≡ allGranted l (sourceNames s)

@@ -97,7 +97,9 @@ answer place g (Broken r j) = Refused r (Quadword place) (slots (g + j))
 
 module _ (place : Quadwords) (g : ℕ) where
   -- a rule that was asked of each instruction
-  each-answer : (r : Rule) (f : ℕ → Bool) (m : ℕ) → firstBroken (eachOf r place g f m) ≡ answer place g (firstFault r (firstBelow f m) Clean)
+  each-answer :
+      (r : Rule) (f : ℕ → Bool) (m : ℕ)
+      → firstBroken (eachOf r place g f m) ≡ answer place g (firstFault r (firstBelow f m) Clean)
   unfolding eachOf below firstBroken firstBelow firstFault orHere
   each-answer r f zero = refl
   each-answer r f (suc m) =
@@ -113,18 +115,24 @@ module _ (place : Quadwords) (g : ℕ) where
       by (At k) b = refl
 
   -- the rules behind it
-  answer-then : (r : Rule) (x : First) (rest : GroupFault) → answer place g (firstFault r x rest) ≡ andThen (answer place g (firstFault r x Clean)) (answer place g rest)
+  answer-then :
+      (r : Rule) (x : First) (rest : GroupFault)
+      → answer place g (firstFault r x rest) ≡ andThen (answer place g (firstFault r x Clean)) (answer place g rest)
   unfolding firstFault
   answer-then r Nowhere rest = refl
   answer-then r (At k) rest = refl
 
-  each-then : (r : Rule) (f : ℕ → Bool) (m : ℕ) (cs : List Check) (rest : GroupFault) → firstBroken cs ≡ answer place g rest → firstBroken (eachOf r place g f m ++ cs) ≡ answer place g (firstFault r (firstBelow f m) rest)
+  each-then :
+      (r : Rule) (f : ℕ → Bool) (m : ℕ) (cs : List Check) (rest : GroupFault) → firstBroken cs ≡ answer place g rest
+      → firstBroken (eachOf r place g f m ++ cs) ≡ answer place g (firstFault r (firstBelow f m) rest)
   each-then r f m cs rest h =
       joined (eachOf r place g f m) cs
       ∙ (λ i. andThen (each-answer r f m i) (h i))
       ∙ sym (answer-then r (firstBelow f m) rest)
 
-  issue-then : (b : Bool) (cs : List Check) (rest : GroupFault) → firstBroken cs ≡ answer place g rest → firstBroken (check IssueLimit (Quadword place) (slots g) b ∷ cs) ≡ answer place g (cond b (Broken IssueLimit 0) rest)
+  issue-then :
+      (b : Bool) (cs : List Check) (rest : GroupFault) → firstBroken cs ≡ answer place g rest
+      → firstBroken (check IssueLimit (Quadword place) (slots g) b ∷ cs) ≡ answer place g (cond b (Broken IssueLimit 0) rest)
   unfolding firstBroken
   issue-then true cs rest h = ap (λ (n : ℕ). Refused IssueLimit (Quadword place) (slots n)) (sym (add-zero g))
   issue-then false cs rest h = h
@@ -134,10 +142,14 @@ module _ (place : Quadwords) (g : ℕ) where
 module _ (place : Quadwords) (g : ℕ) (limits : Limits) (mayKill : Bool) (lo hi : Words) (m : ℕ) where
   same-issue : badIssue mayKill lo hi m ≡ badIssues (issuesOf lo hi m) m mayKill
   unfolding badIssue badIssues issuesOf
-  same-issue = ap (λ (b : Bool). b || ((anyKill hi m && not mayKill) || ((anyMova hi m && anyRelative lo hi m) || (anyReduction hi m && (ltb m 4 || anyUneven hi m))))) (sym (counts-several (settersAndKills hi m)))
+  same-issue =
+      ap
+      (λ (b : Bool). b || ((anyKill hi m && not mayKill) || ((anyMova hi m && anyRelative lo hi m) || (anyReduction hi m && (ltb m 4 || anyUneven hi m)))))
+      (sym (counts-several (settersAndKills hi m)))
 
   -- the answer read off at the group's end is the verdict of its checks
-  pub group-answer : firstBroken (ruleChecks place g limits mayKill lo hi m) ≡ answer place g (faultOf (seenOf limits lo hi m) m mayKill)
+  pub group-answer :
+      firstBroken (ruleChecks place g limits mayKill lo hi m) ≡ answer place g (faultOf (seenOf limits lo hi m) m mayKill)
   unfolding ruleChecks faultOf seenOf
   group-answer =
       each-then place g AluNumber (λ j. badNumber (hi j)) m _ _
@@ -148,7 +160,9 @@ module _ (place : Quadwords) (g : ℕ) (limits : Limits) (mayKill : Bool) (lo hi
       (each-answer place g NotGranted (λ j. not (allGranted limits (named (lo j) (hi j)))) m))))
 
   -- every register and constant that any of its instructions names is granted
-  pub group-granted : firstBroken (ruleChecks place g limits mayKill lo hi m) ≡ Accepted → (j : ℕ) → j < m → (n : Name) → List·Memᴰ n (named (lo j) (hi j)) → granted limits n ≡ true
+  pub group-granted :
+      firstBroken (ruleChecks place g limits mayKill lo hi m) ≡ Accepted → (j : ℕ) → j < m → (n : Name)
+      → List·Memᴰ n (named (lo j) (hi j)) → granted limits n ≡ true
   unfolding ruleChecks eachOf
   group-granted h j l n =
       let clean = rest-clean _ _ (right-clean (eachOf UnitTaken place g (badUnitAt hi) m) _ (right-clean (eachOf AluField place g (λ k. badField (lo k) (hi k)) m) _ (right-clean (eachOf AluNumber place g (λ k. badNumber (hi k)) m) _ h))) in

@@ -61,12 +61,15 @@ pub record Asked (t : Taken) (j first h : ℕ) (k : Class) (chan u swizzle : ℕ
   pub uneven-is : uneven ≡ isUneven j u first h
   pub taken-is : taken ≡ alu.isTaken k
 
-module _ (limits : Limits) (j first l h : ℕ) (s : Seen) {k : Class} {chan u swizzle : ℕ} {bad uneven taken : Bool} (q : Asked (s .taken) j first h k chan u swizzle bad uneven taken) where
+module _ (limits : Limits) (j first l h : ℕ) (s : Seen) {k : Class} {chan u swizzle : ℕ} {bad uneven taken : Bool}
+    (q : Asked (s .taken) j first h k chan u swizzle bad uneven taken) where
   unit-of : u ≡ unitOf (s .taken) h
   unfolding unitOf
   unit-of = q .unit-is ∙ (λ i. unitFor (s .taken) (q .class-is i .unit) (q .chan-is i))
 
-  pub next-seen : {literal : ℕ} {numbers fields units grants : First} {after : Taken} {issues : Issues} {wrong-field relative granted : Bool} {own : ℕ}
+  pub next-seen :
+      {literal : ℕ} {numbers fields units grants : First} {after : Taken} {issues : Issues} {wrong-field relative granted : Bool}
+      {own : ℕ}
       → own ≡ literals l h
       → literal ≡ max (s .literals) own
       → numbers ≡ orHere (s .numbers) j (not taken)

@@ -36,7 +36,9 @@ by-third f hi = by (isOp3 hi)
     by true = refl
     by false = refl
 
-pub third-made : (hi : ℕ) {b : Bool} {x y z sel rel chan : ℕ} → b ≡ isOp3 hi → x ≡ fieldOf hi 0 9 → sel ≡ cond b x 248 → y ≡ fieldOf hi 9 1 → rel ≡ cond b y 0 → z ≡ fieldOf hi 10 2 → chan ≡ cond b z 0 → record { sel = sel; rel = rel; chan = chan } ≡ thirdOf hi
+pub third-made :
+    (hi : ℕ) {b : Bool} {x y z sel rel chan : ℕ} → b ≡ isOp3 hi → x ≡ fieldOf hi 0 9 → sel ≡ cond b x 248 → y ≡ fieldOf hi 9 1
+    → rel ≡ cond b y 0 → z ≡ fieldOf hi 10 2 → chan ≡ cond b z 0 → record { sel = sel; rel = rel; chan = chan } ≡ thirdOf hi
 unfolding thirdOf
 third-made hi e x sel y rel z chan =
     (λ n.
@@ -47,7 +49,9 @@ third-made hi e x sel y rel z chan =
     })
     ∙ by (isOp3 hi)
   where
-    by : (b : Bool) → record { sel = cond b (fieldOf hi 0 9) 248; rel = cond b (fieldOf hi 9 1) 0; chan = cond b (fieldOf hi 10 2) 0 } ≡ cond b (source2Of hi) noSource
+    by :
+        (b : Bool)
+        → record { sel = cond b (fieldOf hi 0 9) 248; rel = cond b (fieldOf hi 9 1) 0; chan = cond b (fieldOf hi 10 2) 0 } ≡ cond b (source2Of hi) noSource
     by true = refl
     by false = refl
 
@@ -73,7 +77,9 @@ third-names hi = by-third namesOf hi
 
 -- ---- a source
 
-pub bad-tests : (s : Source) → ((leb 192 (s .sel) && ltb (s .sel) 248) || ((leb 248 (s .sel) && ltb (s .sel) 256) && isRelative s)) ≡ badSource s
+pub bad-tests :
+    (s : Source)
+    → ((leb 192 (s .sel) && ltb (s .sel) 248) || ((leb 248 (s .sel) && ltb (s .sel) 256) && isRelative s)) ≡ badSource s
 unfolding badSource
 bad-tests s = by (ltb (s .sel) 192) refl (ltb (s .sel) 248) refl (ltb (s .sel) 256)
   where
@@ -86,7 +92,9 @@ bad-tests s = by (ltb (s .sel) 192) refl (ltb (s .sel) 248) refl (ltb (s .sel) 2
         let h = ltb-false (s .sel) 248 f in
         rw (le-leb 192 (s .sel) (omega arith), le-leb 248 (s .sel) h) (sym (only-if d (isRelative s)))
 
-pub relative-or-granted : (l : Limits) (s : Source) {a b : Bool} → a ≡ isRelative s → b ≡ allGranted l (sourceNames (s .sel)) → (a || b) ≡ allGranted l (namesOf s)
+pub relative-or-granted :
+    (l : Limits) (s : Source) {a b : Bool} → a ≡ isRelative s → b ≡ allGranted l (sourceNames (s .sel))
+    → (a || b) ≡ allGranted l (namesOf s)
 unfolding namesOf
 relative-or-granted l s e f = (λ i. e i || f i) ∙ by (isRelative s)
   where
@@ -100,30 +108,45 @@ relative-or-granted l s e f = (λ i. e i || f i) ∙ by (isRelative s)
 pub asked : {A : Type 0} (f : Source → A) {s t : Source} {r : A} → s ≡ t → r ≡ f s → r ≡ f t
 asked f e p = p ∙ ap f e
 
-pub destination-tests : (hi : ℕ) (l : Limits) {w : Bool} {x g : ℕ} {ok : Bool} → w ≡ isWritten hi → x ≡ fieldOf hi 28 1 → g ≡ fieldOf hi 21 7 → ok ≡ granted l (aluRegister g) → (not (w && eqb x 0) || ok) ≡ allGranted l (destinationNames hi)
+pub destination-tests :
+    (hi : ℕ) (l : Limits) {w : Bool} {x g : ℕ} {ok : Bool} → w ≡ isWritten hi → x ≡ fieldOf hi 28 1 → g ≡ fieldOf hi 21 7
+    → ok ≡ granted l (aluRegister g) → (not (w && eqb x 0) || ok) ≡ allGranted l (destinationNames hi)
 unfolding destinationNames
 destination-tests hi l w x g ok =
-    (λ n. not (w n && eqb (x n) 0) || (ok ∙ (λ k. granted l (aluRegister (g k)))) n) ∙ by (isWritten hi && eqb (fieldOf hi 28 1) 0)
+    (λ n. not (w n && eqb (x n) 0) || (ok ∙ (λ k. granted l (aluRegister (g k)))) n)
+    ∙ by (isWritten hi && eqb (fieldOf hi 28 1) 0)
   where
-    by : (t : Bool) → (not t || granted l (aluRegister (fieldOf hi 21 7))) ≡ allGranted l (cond t (aluRegister (fieldOf hi 21 7) ∷ []) [])
+    by :
+        (t : Bool)
+        → (not t || granted l (aluRegister (fieldOf hi 21 7))) ≡ allGranted l (cond t (aluRegister (fieldOf hi 21 7) ∷ []) [])
     by true = sym (and-true (granted l (aluRegister (fieldOf hi 21 7))))
     by false = refl
 
 module _ (lo hi : ℕ) where
-  pub field-tests : {p i z : ℕ} {a b d : Bool} → p ≡ fieldOf lo 29 2 → i ≡ fieldOf lo 26 3 → z ≡ fieldOf hi 18 3 → a ≡ badSource (source0Of lo) → b ≡ badSource (source1Of lo) → d ≡ badSource (thirdOf hi) → (eqb p 1 || (ltb 4 i || (ltb 5 z || (a || (b || d))))) ≡ badField lo hi
+  pub field-tests :
+      {p i z : ℕ} {a b d : Bool} → p ≡ fieldOf lo 29 2 → i ≡ fieldOf lo 26 3 → z ≡ fieldOf hi 18 3 → a ≡ badSource (source0Of lo)
+      → b ≡ badSource (source1Of lo) → d ≡ badSource (thirdOf hi)
+      → (eqb p 1 || (ltb 4 i || (ltb 5 z || (a || (b || d))))) ≡ badField lo hi
   unfolding badField
   field-tests p i z a b d = λ n. eqb (p n) 1 || (ltb 4 (i n) || (ltb 5 (z n) || (a n || (b n || (d ∙ third-bad hi) n))))
 
-  pub relative-tests : {x : ℕ} {a b d : Bool} → x ≡ fieldOf hi 28 1 → a ≡ isRelative (source0Of lo) → b ≡ isRelative (source1Of lo) → d ≡ isRelative (thirdOf hi) → (not (eqb x 0) || (a || (b || d))) ≡ hasRelative lo hi
+  pub relative-tests :
+      {x : ℕ} {a b d : Bool} → x ≡ fieldOf hi 28 1 → a ≡ isRelative (source0Of lo) → b ≡ isRelative (source1Of lo)
+      → d ≡ isRelative (thirdOf hi) → (not (eqb x 0) || (a || (b || d))) ≡ hasRelative lo hi
   unfolding hasRelative
   relative-tests x a b d = λ n. not (eqb (x n) 0) || (a n || (b n || (d ∙ third-relative hi) n))
 
-  pub literal-tests : {a b d m r : ℕ} → a ≡ sourceLiterals (source0Of lo) → b ≡ sourceLiterals (source1Of lo) → m ≡ max a b → d ≡ sourceLiterals (thirdOf hi) → r ≡ max m d → r ≡ literals lo hi
+  pub literal-tests :
+      {a b d m r : ℕ} → a ≡ sourceLiterals (source0Of lo) → b ≡ sourceLiterals (source1Of lo) → m ≡ max a b
+      → d ≡ sourceLiterals (thirdOf hi) → r ≡ max m d → r ≡ literals lo hi
   unfolding literals
   literal-tests a b m d r = r ∙ (λ n. max ((m ∙ (λ k. max (a k) (b k))) n) ((d ∙ third-literals hi) n))
 
   module _ (l : Limits) where
-    pub operand-tests : {d a b e : Bool} → d ≡ allGranted l (destinationNames hi) → a ≡ allGranted l (namesOf (source0Of lo)) → b ≡ allGranted l (namesOf (source1Of lo)) → e ≡ allGranted l (namesOf (thirdOf hi)) → (d && (a && (b && e))) ≡ allGranted l (named lo hi)
+    pub operand-tests :
+        {d a b e : Bool} → d ≡ allGranted l (destinationNames hi) → a ≡ allGranted l (namesOf (source0Of lo))
+        → b ≡ allGranted l (namesOf (source1Of lo)) → e ≡ allGranted l (namesOf (thirdOf hi))
+        → (d && (a && (b && e))) ≡ allGranted l (named lo hi)
     unfolding named
     operand-tests d a b e =
         (λ n. d n && (a n && (b n && (e ∙ (λ k. allGranted l (third-names hi k))) n)))

@@ -45,7 +45,9 @@ unfolding judgement
 judged-accepted card w = accepted-exactly-if (checks card w)
 
 -- a refusal is the first broken check of the list
-pub judged-refused : (card : Card) (w : List ℕ) (r : Rule) (p : Place) (s : Slots) → judgement card w ≡ Refused r p s ↔ BrokenFirst (checks card w) r p s
+pub judged-refused :
+    (card : Card) (w : List ℕ) (r : Rule) (p : Place) (s : Slots)
+    → judgement card w ≡ Refused r p s ↔ BrokenFirst (checks card w) r p s
 unfolding judgement
 judged-refused card w r p s = refused-exactly-if (checks card w) r p s
 
@@ -78,7 +80,9 @@ never-accepted h = let z : _≡_ {A = ℕ} 0 1 = cc in omega arith
 abbrev Meets : Card → List ℕ → Verdict → Type 0
 Meets card w v = (v ≡ judgement card w) × (v ≡ Accepted → Safely card w)
 
-refuses : {card : Card} {w : List ℕ} {v : Verdict} {r : Rule} {p : Place} {s : Slots} → v ≡ Refused r p s → judgement card w ≡ Refused r p s → Meets card w v
+refuses :
+    {card : Card} {w : List ℕ} {v : Verdict} {r : Rule} {p : Place} {s : Slots} → v ≡ Refused r p s
+    → judgement card w ≡ Refused r p s → Meets card w v
 refuses e h = (e ∙ sym h, λ a. absurd (never-accepted (sym e ∙ a)))
 
 module _ (card : Card) (w : List ℕ) {t : CardTest} (e : t ≡ testOf card) where
@@ -89,7 +93,9 @@ module _ (card : Card) (w : List ℕ) {t : CardTest} (e : t ≡ testOf card) whe
       (joined-refused (lineChecks (figureTests card)) _ (lines-are card ∙ ap lineVerdict (sym e ∙ h)))
 
   module _ (h : t ≡ test.InRange) where
-    behind-card : judgement card w ≡ firstBroken (check PackLength Whole (slots 0) (badLength w (card .quads)) ∷ check NoEnd Whole (slots 0) (noEnd w) ∷ passes card w (endOf w))
+    behind-card :
+        judgement card w ≡ firstBroken
+        (check PackLength Whole (slots 0) (badLength w (card .quads)) ∷ check NoEnd Whole (slots 0) (noEnd w) ∷ passes card w (endOf w))
     unfolding judgement checks
     behind-card = joined-clean (lineChecks (figureTests card)) _ (lines-are card ∙ ap lineVerdict (sym e ∙ h))
 
@@ -97,7 +103,8 @@ module _ (card : Card) (w : List ℕ) {t : CardTest} (e : t ≡ testOf card) whe
       pub bad-length : {v : Verdict} → b ≡ true → v ≡ Refused PackLength Whole (slots 0) → Meets card w v
       bad-length k q = refuses q (behind-card ∙ hit (check PackLength Whole (slots 0) (badLength w (card .quads))) _ (sym f ∙ k))
 
-      module _ (k : b ≡ false) {s z : Quadwords} (p : s ≡ quadwords (searched w)) (q : z ≡ quadwords (endOf w)) {d : Bool} (r : d ≡ isAtMost s z) where
+      module _ (k : b ≡ false) {s z : Quadwords} (p : s ≡ quadwords (searched w)) (q : z ≡ quadwords (endOf w)) {d : Bool}
+          (r : d ≡ isAtMost s z) where
         no-end-is : (x : Bool) → d ≡ x → noEnd w ≡ x
         unfolding noEnd
         no-end-is x y = (λ i. isAtMost (sym p i) (sym q i)) ∙ sym r ∙ y
@@ -129,7 +136,9 @@ module _ (card : Card) (w : List ℕ) (e : ℕ) {v : Verdict} (f : v ≡ firstBr
   unfolding passes
   in-first q = sym (joined-refused (below (firstChecks card w e) (suc e)) (below (secondChecks e (flowAt w)) (suc e)) (sym f ∙ q))
 
-  pub in-second : {u : Verdict} (tops marks : List ℕ) → v ≡ Accepted → Recorded (flowAt w) (suc e) tops marks → u ≡ firstBroken (below (rowChecks (flowAt w) (e + 1 - 1) tops marks) (e + 1)) → u ≡ firstBroken (passes card w e)
+  pub in-second :
+      {u : Verdict} (tops marks : List ℕ) → v ≡ Accepted → Recorded (flowAt w) (suc e) tops marks
+      → u ≡ firstBroken (below (rowChecks (flowAt w) (e + 1 - 1) tops marks) (e + 1)) → u ≡ firstBroken (passes card w e)
   unfolding passes
   in-second {u} tops marks q r g =
       second-pass-is (flowAt w) e (e + 1) tops marks u (add-one e) r g
@@ -141,7 +150,9 @@ module _ (bytes w : List ℕ) {k : CardRead} (e : k ≡ cardOf bytes) where
   same-card : {a b : Card} {n m : ℕ} → read.Whole a n ≡ read.Whole b m → a ≡ b
   same-card h = cc
 
-  pub by-card : {card : Card} {n : ℕ} {v : Verdict} → k ≡ read.Whole card n → v ≡ judgement card w → (v ≡ Accepted → Safely card w) → (v ≡ judgementOfBytes bytes w) × (v ≡ Accepted → SafelyRead bytes w)
+  pub by-card :
+      {card : Card} {n : ℕ} {v : Verdict} → k ≡ read.Whole card n → v ≡ judgement card w → (v ≡ Accepted → Safely card w)
+      → (v ≡ judgementOfBytes bytes w) × (v ≡ Accepted → SafelyRead bytes w)
   unfolding judgementOfBytes
   by-card {card} {n} h f g =
       (f ∙ ap (λ (x : CardRead). readJudgement x w) (sym h ∙ e), λ a c m q. subst-safely (same-card (sym h ∙ e ∙ q)) (g a))
@@ -149,6 +160,8 @@ module _ (bytes w : List ℕ) {k : CardRead} (e : k ≡ cardOf bytes) where
       subst-safely : {a b : Card} → a ≡ b → Safely a w → Safely b w
       subst-safely p s = subst (λ (x : Card). Safely x w) p s
 
-  pub by-line : {n : ℕ} → k ≡ read.BadLine n → (Refused CardLine (Line n) (slots 0) ≡ judgementOfBytes bytes w) × (Refused CardLine (Line n) (slots 0) ≡ Accepted → SafelyRead bytes w)
+  pub by-line :
+      {n : ℕ} → k ≡ read.BadLine n
+      → (Refused CardLine (Line n) (slots 0) ≡ judgementOfBytes bytes w) × (Refused CardLine (Line n) (slots 0) ≡ Accepted → SafelyRead bytes w)
   unfolding judgementOfBytes
   by-line h = (ap (λ (x : CardRead). readJudgement x w) (sym h ∙ e), λ a. absurd (never-accepted a))

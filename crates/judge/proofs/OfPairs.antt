@@ -32,14 +32,21 @@ module _ (card : Card) (w : List ℕ) (place : Quadwords) (c : Control) (lo hi :
   unfolding clauseChecks firstBroken
   no-clause e = rw e
 
-  pub alu-clause : {limits : Limits} {push : Bool} {v : Verdict} (s : Quadwords) (n : Slots) → clause ≡ AluClause s n → limits ≡ limitsOf card lo hi → push ≡ isPushBefore c → v ≡ firstBroken (alu.clauseChecks (card .kind) push limits w place s n) → v ≡ firstBroken (clauseChecks card w place c lo hi clause)
+  pub alu-clause :
+      {limits : Limits} {push : Bool} {v : Verdict} (s : Quadwords) (n : Slots) → clause ≡ AluClause s n
+      → limits ≡ limitsOf card lo hi → push ≡ isPushBefore c
+      → v ≡ firstBroken (alu.clauseChecks (card .kind) push limits w place s n)
+      → v ≡ firstBroken (clauseChecks card w place c lo hi clause)
   unfolding clauseChecks
   alu-clause s n e l p f =
       f
       ∙ (λ i. firstBroken (alu.clauseChecks (card .kind) (p i) (l i) w place s n))
       ∙ ap (λ (k : Clause). firstBroken (clauseChecks card w place c lo hi k)) (sym e)
 
-  pub fetch-clause : {limits : Limits} {kind : FetchKind} {v : Verdict} (s : Quadwords) (n : Slots) → clause ≡ FetchClause s n → limits ≡ limitsOf card lo hi → kind ≡ fetchKind c → v ≡ firstBroken (fetches.clauseChecks kind limits w place s n) → v ≡ firstBroken (clauseChecks card w place c lo hi clause)
+  pub fetch-clause :
+      {limits : Limits} {kind : FetchKind} {v : Verdict} (s : Quadwords) (n : Slots) → clause ≡ FetchClause s n
+      → limits ≡ limitsOf card lo hi → kind ≡ fetchKind c → v ≡ firstBroken (fetches.clauseChecks kind limits w place s n)
+      → v ≡ firstBroken (clauseChecks card w place c lo hi clause)
   unfolding clauseChecks
   fetch-clause s n e l k f =
       f
@@ -50,12 +57,16 @@ module _ (card : Card) (w : List ℕ) (place : Quadwords) (c : Control) (lo hi :
 
 module _ (card : Card) (w : List ℕ) (e place : Quadwords) (c : Control) (lo hi : ℕ) where
   module _ {a : Bool} (p : a ≡ isNotTaken c) where
-    pub breaks-4 : {v : Verdict} → a ≡ true → v ≡ Refused CfNumber (Quadword place) (slots 0) → v ≡ firstBroken (pairChecks card w e place c lo hi)
+    pub breaks-4 :
+        {v : Verdict} → a ≡ true → v ≡ Refused CfNumber (Quadword place) (slots 0)
+        → v ≡ firstBroken (pairChecks card w e place c lo hi)
     unfolding pairChecks
     breaks-4 h f = f ∙ sym (hit (check CfNumber (Quadword place) (slots 0) (isNotTaken c)) _ (sym p ∙ h))
 
     module _ (h : a ≡ false) {b : Bool} (q : b ≡ badField c hi) where
-      pub breaks-5 : {v : Verdict} → b ≡ true → v ≡ Refused CfField (Quadword place) (slots 0) → v ≡ firstBroken (pairChecks card w e place c lo hi)
+      pub breaks-5 :
+          {v : Verdict} → b ≡ true → v ≡ Refused CfField (Quadword place) (slots 0)
+          → v ≡ firstBroken (pairChecks card w e place c lo hi)
       unfolding pairChecks
       breaks-5 k f =
           f
@@ -63,31 +74,40 @@ module _ (card : Card) (w : List ℕ) (e place : Quadwords) (c : Control) (lo hi
           (miss (check CfNumber (Quadword place) (slots 0) (isNotTaken c)) _ (sym p ∙ h)
           ∙ hit (check CfField (Quadword place) (slots 0) (badField c hi)) _ (sym q ∙ k))
 
-      module _ (k : b ≡ false) {clause : Clause} (r : clause ≡ clauseOf c lo hi) {d : Bool} (s : d ≡ badRange e (card .quads) clause) where
+      module _ (k : b ≡ false) {clause : Clause} (r : clause ≡ clauseOf c lo hi) {d : Bool}
+          (s : d ≡ badRange e (card .quads) clause) where
         range-is : d ≡ badRange e (card .quads) (clauseOf c lo hi)
         range-is = s ∙ ap (badRange e (card .quads)) r
 
-        pub breaks-6 : {v : Verdict} → d ≡ true → v ≡ Refused ClauseRange (Quadword place) (slots 0) → v ≡ firstBroken (pairChecks card w e place c lo hi)
+        pub breaks-6 :
+            {v : Verdict} → d ≡ true → v ≡ Refused ClauseRange (Quadword place) (slots 0)
+            → v ≡ firstBroken (pairChecks card w e place c lo hi)
         unfolding pairChecks
         breaks-6 l f =
             f
             ∙ sym
             (miss (check CfNumber (Quadword place) (slots 0) (isNotTaken c)) _ (sym p ∙ h)
             ∙ miss (check CfField (Quadword place) (slots 0) (badField c hi)) _ (sym q ∙ k)
-            ∙ hit (check ClauseRange (Quadword place) (slots 0) (badRange e (card .quads) (clauseOf c lo hi))) _ (sym range-is ∙ l))
+            ∙ hit (check ClauseRange (Quadword place) (slots 0) (badRange e (card .quads) (clauseOf c lo hi))) _
+            (sym range-is ∙ l))
 
         module _ (l : d ≡ false) {x : Bool} (t : x ≡ badExport c (card .kind) (card .gprs) lo hi) where
-          pub breaks-7 : {v : Verdict} → x ≡ true → v ≡ Refused ExportField (Quadword place) (slots 0) → v ≡ firstBroken (pairChecks card w e place c lo hi)
+          pub breaks-7 :
+              {v : Verdict} → x ≡ true → v ≡ Refused ExportField (Quadword place) (slots 0)
+              → v ≡ firstBroken (pairChecks card w e place c lo hi)
           unfolding pairChecks
           breaks-7 m f =
               f
               ∙ sym
               (miss (check CfNumber (Quadword place) (slots 0) (isNotTaken c)) _ (sym p ∙ h)
               ∙ miss (check CfField (Quadword place) (slots 0) (badField c hi)) _ (sym q ∙ k)
-              ∙ miss (check ClauseRange (Quadword place) (slots 0) (badRange e (card .quads) (clauseOf c lo hi))) _ (sym range-is ∙ l)
+              ∙ miss (check ClauseRange (Quadword place) (slots 0) (badRange e (card .quads) (clauseOf c lo hi))) _
+              (sym range-is ∙ l)
               ∙ hit (check ExportField (Quadword place) (slots 0) (badExport c (card .kind) (card .gprs) lo hi)) _ (sym t ∙ m))
 
-          pub then-clause : {v : Verdict} → x ≡ false → v ≡ firstBroken (clauseChecks card w place c lo hi clause) → v ≡ firstBroken (pairChecks card w e place c lo hi)
+          pub then-clause :
+              {v : Verdict} → x ≡ false → v ≡ firstBroken (clauseChecks card w place c lo hi clause)
+              → v ≡ firstBroken (pairChecks card w e place c lo hi)
           unfolding pairChecks
           then-clause m f =
               f
@@ -95,5 +115,6 @@ module _ (card : Card) (w : List ℕ) (e place : Quadwords) (c : Control) (lo hi
               ∙ sym
               (miss (check CfNumber (Quadword place) (slots 0) (isNotTaken c)) _ (sym p ∙ h)
               ∙ miss (check CfField (Quadword place) (slots 0) (badField c hi)) _ (sym q ∙ k)
-              ∙ miss (check ClauseRange (Quadword place) (slots 0) (badRange e (card .quads) (clauseOf c lo hi))) _ (sym range-is ∙ l)
+              ∙ miss (check ClauseRange (Quadword place) (slots 0) (badRange e (card .quads) (clauseOf c lo hi))) _
+              (sym range-is ∙ l)
               ∙ miss (check ExportField (Quadword place) (slots 0) (badExport c (card .kind) (card .gprs) lo hi)) _ (sym t ∙ m))

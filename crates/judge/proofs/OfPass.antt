@@ -32,7 +32,8 @@ use Rattle.judge.specs.Passing.{Section, Within, Ready, StackFound, Foun
 
 -- ---- one place
 
-module _ (w : List ℕ) (p : ℕ) {low high : ℕ} {c : Control} (a : low ≡ lowAt w p) (b : high ≡ highAt w p) (d : c ≡ controlOf high) where
+module _ (w : List ℕ) (p : ℕ) {low high : ℕ} {c : Control} (a : low ≡ lowAt w p) (b : high ≡ highAt w p)
+    (d : c ≡ controlOf high) where
   pub flow-is : {flow : Flow} → flow ≡ flowOf c low high → flow ≡ flowAt w p
   flow-is {flow} e = pair-at w p low high c flow a b d e
 
@@ -40,21 +41,25 @@ module _ (w : List ℕ) (p : ℕ) {low high : ℕ} {c : Control} (a : low ≡ lo
   unfolding controlAt
   control-is = d ∙ ap controlOf b
 
-module _ (card : Card) (w : List ℕ) (e p : ℕ) {low high : ℕ} {c : Control} (a : low ≡ lowAt w p) (b : high ≡ highAt w p) (d : c ≡ controlOf high) {v : Verdict} (f : v ≡ firstBroken (pairChecks card w (quadwords e) (quadwords p) c low high)) where
+module _ (card : Card) (w : List ℕ) (e p : ℕ) {low high : ℕ} {c : Control} (a : low ≡ lowAt w p) (b : high ≡ highAt w p)
+    (d : c ≡ controlOf high) {v : Verdict} (f : v ≡ firstBroken (pairChecks card w (quadwords e) (quadwords p) c low high)) where
   pub pair-is : v ≡ firstBroken (pairChecks card w (quadwords e) (quadwords p) (controlAt w p) (lowAt w p) (highAt w p))
   pair-is = f ∙ (λ i. firstBroken (pairChecks card w (quadwords e) (quadwords p) (control-is w p a b d i) (a i) (b i)))
 
   pub found-pair : {r : Rule} {at : Place} {slot : Slots} → v ≡ Refused r at slot → Found card w e p (Broken r at slot)
   unfolding firstChecks
   found-pair h =
-      joined-refused (pairChecks card w (quadwords e) (quadwords p) (controlAt w p) (lowAt w p) (highAt w p)) (stackChecks (card .stack) e (flowAt w) p) (sym pair-is ∙ h)
+      joined-refused (pairChecks card w (quadwords e) (quadwords p) (controlAt w p) (lowAt w p) (highAt w p))
+      (stackChecks (card .stack) e (flowAt w) p) (sym pair-is ∙ h)
 
   pub found-stack : (x : Ahead) → v ≡ Accepted → StackFound (card .stack) e (flowAt w) p x → Found card w e p x
   unfolding firstChecks
   found-stack x h g = by x g
     where
       clean : firstBroken (firstChecks card w e p) ≡ firstBroken (stackChecks (card .stack) e (flowAt w) p)
-      clean = joined-clean (pairChecks card w (quadwords e) (quadwords p) (controlAt w p) (lowAt w p) (highAt w p)) (stackChecks (card .stack) e (flowAt w) p) (sym pair-is ∙ h)
+      clean =
+          joined-clean (pairChecks card w (quadwords e) (quadwords p) (controlAt w p) (lowAt w p) (highAt w p))
+          (stackChecks (card .stack) e (flowAt w) p) (sym pair-is ∙ h)
 
       by : (x : Ahead) → StackFound (card .stack) e (flowAt w) p x → Found card w e p x
       by (Broken r at slot) k = clean ∙ k
@@ -70,7 +75,8 @@ pub record Passing (card : Card) (w : List ℕ) (e : ℕ) (tops₀ marks₀ tops
   pub clean-below : firstBroken (below (firstChecks card w e) p) ≡ Accepted
   pub ready : Ready (flowAt w) (card .stack) p s tops marks
 
-pub passing-none : (card : Card) (w : List ℕ) (e : ℕ) (tops marks : List ℕ) → Passing card w e tops marks tops marks (frames 0 0 0) 0
+pub passing-none :
+    (card : Card) (w : List ℕ) (e : ℕ) (tops marks : List ℕ) → Passing card w e tops marks tops marks (frames 0 0 0) 0
 passing-none card w e tops marks =
     record {
       within = omega arith;
@@ -83,13 +89,17 @@ passing-none card w e tops marks =
 never-accepted : {r : Rule} {p : Place} {s : Slots} → Refused r p s ≡ Accepted → ⊥
 never-accepted h = let z : _≡_ {A = ℕ} 0 1 = cc in omega arith
 
-module _ (card : Card) (w : List ℕ) (e : ℕ) (tops₀ marks₀ tops marks : List ℕ) (s : Frames) (p : ℕ) (g : Passing card w e tops₀ marks₀ tops marks s p) where
-  pub passing-found : {a : Ahead} {r : Rule} {at : Place} {slot : Slots} {X : Type 0} → p ≤ e → Found card w e p a → a ≡ Broken r at slot
+module _ (card : Card) (w : List ℕ) (e : ℕ) (tops₀ marks₀ tops marks : List ℕ) (s : Frames) (p : ℕ)
+    (g : Passing card w e tops₀ marks₀ tops marks s p) where
+  pub passing-found :
+      {a : Ahead} {r : Rule} {at : Place} {slot : Slots} {X : Type 0} → p ≤ e → Found card w e p a → a ≡ Broken r at slot
       → (Refused r at slot ≡ firstBroken (below (firstChecks card w e) (suc e))) × (Refused r at slot ≡ Accepted → X)
   passing-found l h q =
       (sym (below-found (firstChecks card w e) (suc e) p (omega arith) (g .clean-below) (subst (Found card w e p) q h)), λ x. absurd (never-accepted x))
 
-  pub passing-next : {a : Ahead} {f : Frames} → e < length tops₀ → e < length marks₀ → p ≤ e → Found card w e p a → a ≡ Next f → Passing card w e tops₀ marks₀ (set tops p (s .top)) (set marks p (s .marks)) f (p + 1)
+  pub passing-next :
+      {a : Ahead} {f : Frames} → e < length tops₀ → e < length marks₀ → p ≤ e → Found card w e p a → a ≡ Next f
+      → Passing card w e tops₀ marks₀ (set tops p (s .top)) (set marks p (s .marks)) f (p + 1)
   passing-next {a} {f} m n l h q =
       let k : (firstBroken (firstChecks card w e p) ≡ Accepted) × Held (flowAt w) (suc p) f × (f .depth ≤ card .stack) = subst (Found card w e p) q h in
       rw add-one
@@ -103,11 +113,14 @@ module _ (card : Card) (w : List ℕ) (e : ℕ) (tops₀ marks₀ tops marks : L
               held = k .1;
               not-deep = k .2;
               recorded =
-                  recorded-more (flowAt w) tops marks p (s .top) (s .marks) (omega (arith, g .tops-room)) (omega (arith, g .marks-room)) (g .ready .recorded) (g .ready .held .shape);
+                  recorded-more (flowAt w) tops marks p (s .top) (s .marks) (omega (arith, g .tops-room))
+                  (omega (arith, g .marks-room)) (g .ready .recorded) (g .ready .held .shape);
             };
       }
 
-  pub passing-all : e < p → (Accepted ≡ firstBroken (below (firstChecks card w e) (suc e))) × (Accepted ≡ Accepted → Recorded (flowAt w) (suc e) tops marks)
+  pub passing-all :
+      e < p
+      → (Accepted ≡ firstBroken (below (firstChecks card w e) (suc e))) × (Accepted ≡ Accepted → Recorded (flowAt w) (suc e) tops marks)
   passing-all l =
       let q : p ≡ suc e = omega (arith, g .within) in
       (sym (subst (λ (k : ℕ). firstBroken (below (firstChecks card w e) k) ≡ Accepted) q (g .clean-below)), λ x. subst (λ (k : ℕ). Recorded (flowAt w) k tops marks) q (g .ready .recorded))

@@ -41,20 +41,27 @@ use Rattle.judge.specs.Safe.{clauseAt, LiesBehind, namesBelow, namesOfEa
 in-joined : {x : Name} (a b : List Name) → List·Memᴰ x (a ++ b) → List·Memᴰ x a ⊎ List·Memᴰ x b
 in-joined [] b m = inr m
 in-joined (n ∷ a) b m =
-    ⊎-elim (λ e. inl (List·Memᴰ·head e)) (λ t. ⊎-elim (λ l. inl (List·Memᴰ·tail l)) (λ r. inr r) (in-joined a b t)) (List·Memᴰ·cases-cons m)
+    ⊎-elim (λ e. inl (List·Memᴰ·head e)) (λ t. ⊎-elim (λ l. inl (List·Memᴰ·tail l)) (λ r. inr r) (in-joined a b t))
+    (List·Memᴰ·cases-cons m)
 
 module _ {P : Name → Type 0} where
-  each-below : (f : ℕ → List Name) (n : ℕ) → ((i : ℕ) → i < n → (x : Name) → List·Memᴰ x (f i) → P x) → (x : Name) → List·Memᴰ x (namesBelow f n) → P x
+  each-below :
+      (f : ℕ → List Name) (n : ℕ) → ((i : ℕ) → i < n → (x : Name) → List·Memᴰ x (f i) → P x) → (x : Name)
+      → List·Memᴰ x (namesBelow f n) → P x
   unfolding namesBelow
   each-below f zero h x m = absurd (List·Memᴰ·not-nil m)
   each-below f (suc n) h x m =
-      ⊎-elim (λ a. each-below f n (λ i l. h i (le-step l)) x a) (λ b. h n (le-refl (suc n)) x b) (in-joined (namesBelow f n) (f n) m)
+      ⊎-elim (λ a. each-below f n (λ i l. h i (le-step l)) x a) (λ b. h n (le-refl (suc n)) x b)
+      (in-joined (namesBelow f n) (f n) m)
 
-  each-of : (f : ℕ → List Name) (gs : List ℕ) → ((g : ℕ) → List·Memᴰ g gs → (x : Name) → List·Memᴰ x (f g) → P x) → (x : Name) → List·Memᴰ x (namesOfEach f gs) → P x
+  each-of :
+      (f : ℕ → List Name) (gs : List ℕ) → ((g : ℕ) → List·Memᴰ g gs → (x : Name) → List·Memᴰ x (f g) → P x) → (x : Name)
+      → List·Memᴰ x (namesOfEach f gs) → P x
   unfolding namesOfEach
   each-of f [] h x m = absurd (List·Memᴰ·not-nil m)
   each-of f (g ∷ gs) h x m =
-      ⊎-elim (λ a. h g (List·Memᴰ·head refl) x a) (λ b. each-of f gs (λ k t. h k (List·Memᴰ·tail t)) x b) (in-joined (f g) (namesOfEach f gs) m)
+      ⊎-elim (λ a. h g (List·Memᴰ·head refl) x a) (λ b. each-of f gs (λ k t. h k (List·Memᴰ·tail t)) x b)
+      (in-joined (f g) (namesOfEach f gs) m)
 
 -- ---- a clause that rule 6 lets through
 
@@ -72,7 +79,8 @@ module _ (e : ℕ) (quads : Quadwords) (few : quads .0 ≤ 8192) where
       let b : min (s .0 + l .0) (2 ^ 64 - 1) ≤ quads .0 = leb-true _ (quads .0) (not-false _ (k .1)) in
       (a, omega (arith, b))
 
-  pub lies-behind : (words : ℕ) → words ≡ 2 * quads .0 → (k : Clause) → badRange (quadwords e) quads k ≡ false → LiesBehind e words k
+  pub lies-behind :
+      (words : ℕ) → words ≡ 2 * quads .0 → (k : Clause) → badRange (quadwords e) quads k ≡ false → LiesBehind e words k
   unfolding badRange
   lies-behind words q NoClause h = tt
   lies-behind words q (AluClause s n) h = let r = reaches s (slotsLength n) h in (r .0, omega (arith, r .1))
@@ -83,42 +91,48 @@ module _ (e : ℕ) (quads : Quadwords) (few : quads .0 ≤ 8192) where
 
 -- ---- a place of the section whose checks are unbroken
 
-module _ (card : Card) (w : List ℕ) (e : ℕ) (few : card .quads .0 ≤ 8192) (whole : length w ≡ 2 * card .quads .0) (p : ℕ) (clean : firstBroken (pairChecks card w (quadwords e) (quadwords p) (controlAt w p) (lowAt w p) (highAt w p)) ≡ Accepted) where
-  pub place-behind : LiesBehind e (length w) (clauseAt w p)
-  unfolding pairChecks
-  place-behind =
-      lies-behind e (card .quads) few (length w) whole (clauseAt w p)
-      (first-clean _ _ (rest-clean _ _ (rest-clean _ _ clean)))
+module _ (card : Card) (w : List ℕ) (e : ℕ) (few : card .quads .0 ≤ 8192) (whole : length w ≡ 2 * card .quads .0) (p : ℕ)
+    (clean : firstBroken (pairChecks card w (quadwords e) (quadwords p) (controlAt w p) (lowAt w p) (highAt w p)) ≡ Accepted)
+  where
+    pub place-behind : LiesBehind e (length w) (clauseAt w p)
+    unfolding pairChecks
+    place-behind =
+        lies-behind e (card .quads) few (length w) whole (clauseAt w p)
+        (first-clean _ _ (rest-clean _ _ (rest-clean _ _ clean)))
 
-  exports-clean : badExport (controlAt w p) (card .kind) (card .gprs) (lowAt w p) (highAt w p) ≡ false
-  unfolding pairChecks
-  exports-clean = first-clean _ _ (rest-clean _ _ (rest-clean _ _ (rest-clean _ _ clean)))
+    exports-clean : badExport (controlAt w p) (card .kind) (card .gprs) (lowAt w p) (highAt w p) ≡ false
+    unfolding pairChecks
+    exports-clean = first-clean _ _ (rest-clean _ _ (rest-clean _ _ (rest-clean _ _ clean)))
 
-  clause-clean : firstBroken (clauseChecks card w (quadwords p) (controlAt w p) (lowAt w p) (highAt w p) (clauseAt w p)) ≡ Accepted
-  unfolding pairChecks
-  clause-clean = rest-clean _ _ (rest-clean _ _ (rest-clean _ _ (rest-clean _ _ clean)))
+    clause-clean :
+        firstBroken (clauseChecks card w (quadwords p) (controlAt w p) (lowAt w p) (highAt w p) (clauseAt w p)) ≡ Accepted
+    unfolding pairChecks
+    clause-clean = rest-clean _ _ (rest-clean _ _ (rest-clean _ _ (rest-clean _ _ clean)))
 
-  in-clause : (k : Clause) → LiesBehind e (length w) k → firstBroken (clauseChecks card w (quadwords p) (controlAt w p) (lowAt w p) (highAt w p) k) ≡ Accepted → (x : Name) → List·Memᴰ x (clauseNames w (controlAt w p) k) → granted (limitsOf card (lowAt w p) (highAt w p)) x ≡ true
-  unfolding clauseNames clauseChecks alu.insideBuffer fetches.insideBuffer
-  in-clause NoClause l h = λ x m. absurd (List·Memᴰ·not-nil m)
-  in-clause (AluClause s n) l h =
-      each-of (λ g. namesBelow (alu.namedAt w s g) (alu.sizeAt w s (n .0) g)) (alu.groupsOf w (2 * s .0) (n .0))
-      (λ g t.
-      each-below (alu.namedAt w s g) (alu.sizeAt w s (n .0) g)
-      (of-alu.accepted-granted (card .kind) (isPushBefore (controlAt w p)) (limitsOf card (lowAt w p) (highAt w p)) w (quadwords p) s n
-      (le-leb (2 * s .0 + 2 * n .0) (length w) (omega (arith, l .1))) h g t))
-  in-clause (FetchClause s n) l h =
-      each-below (fetches.namedAt (fetchKind (controlAt w p)) w s) (n .0)
-      (of-fetches.accepted-granted (fetchKind (controlAt w p)) (limitsOf card (lowAt w p) (highAt w p)) w (quadwords p) s n
-      (le-leb (2 * s .0 + 4 * n .0) (length w) (omega (arith, l .1))) h)
+    in-clause :
+        (k : Clause) → LiesBehind e (length w) k
+        → firstBroken (clauseChecks card w (quadwords p) (controlAt w p) (lowAt w p) (highAt w p) k) ≡ Accepted → (x : Name)
+        → List·Memᴰ x (clauseNames w (controlAt w p) k) → granted (limitsOf card (lowAt w p) (highAt w p)) x ≡ true
+    unfolding clauseNames clauseChecks alu.insideBuffer fetches.insideBuffer
+    in-clause NoClause l h = λ x m. absurd (List·Memᴰ·not-nil m)
+    in-clause (AluClause s n) l h =
+        each-of (λ g. namesBelow (alu.namedAt w s g) (alu.sizeAt w s (n .0) g)) (alu.groupsOf w (2 * s .0) (n .0))
+        (λ g t.
+        each-below (alu.namedAt w s g) (alu.sizeAt w s (n .0) g)
+        (of-alu.accepted-granted (card .kind) (isPushBefore (controlAt w p)) (limitsOf card (lowAt w p) (highAt w p)) w (quadwords p) s n
+        (le-leb (2 * s .0 + 2 * n .0) (length w) (omega (arith, l .1))) h g t))
+    in-clause (FetchClause s n) l h =
+        each-below (fetches.namedAt (fetchKind (controlAt w p)) w s) (n .0)
+        (of-fetches.accepted-granted (fetchKind (controlAt w p)) (limitsOf card (lowAt w p) (highAt w p)) w (quadwords p) s n
+        (le-leb (2 * s .0 + 4 * n .0) (length w) (omega (arith, l .1))) h)
 
-  pub place-granted : (x : Name) → List·Memᴰ x (namesAt w p) → granted (limitsOf card (lowAt w p) (highAt w p)) x ≡ true
-  unfolding namesAt
-  place-granted x m =
-      ⊎-elim
-      (each-export-granted (controlAt w p) (card .kind) (limitsOf card (lowAt w p) (highAt w p)) (card .gprs) (lowAt w p) (highAt w p) refl exports-clean x)
-      (in-clause (clauseAt w p) place-behind clause-clean x)
-      (in-joined (exportNames (controlAt w p) (lowAt w p) (highAt w p)) (clauseNames w (controlAt w p) (clauseAt w p)) m)
+    pub place-granted : (x : Name) → List·Memᴰ x (namesAt w p) → granted (limitsOf card (lowAt w p) (highAt w p)) x ≡ true
+    unfolding namesAt
+    place-granted x m =
+        ⊎-elim
+        (each-export-granted (controlAt w p) (card .kind) (limitsOf card (lowAt w p) (highAt w p)) (card .gprs) (lowAt w p) (highAt w p) refl exports-clean x)
+        (in-clause (clauseAt w p) place-behind clause-clean x)
+        (in-joined (exportNames (controlAt w p) (lowAt w p) (highAt w p)) (clauseNames w (controlAt w p) (clauseAt w p)) m)
 
 -- ---- the walk
 
@@ -136,18 +150,25 @@ judged card w h =
     let e : ℕ = endOf w in
     record {
       whole = length-right w (card .quads) (first-clean _ _ rest);
-      first = λ p l. below-each (firstChecks card w e) (suc e) p (left-clean (below (firstChecks card w e) (suc e)) _ both) (omega arith);
+      first =
+          λ p l.
+          below-each (firstChecks card w e) (suc e) p (left-clean (below (firstChecks card w e) (suc e)) _ both) (omega arith);
       second = right-clean (below (firstChecks card w e) (suc e)) _ both;
     }
 
 module _ (card : Card) (w : List ℕ) (ranges : Ranges card) (j : Judged card w) where
-  pair-clean : (p : ℕ) → p ≤ endOf w → firstBroken (pairChecks card w (quadwords (endOf w)) (quadwords p) (controlAt w p) (lowAt w p) (highAt w p)) ≡ Accepted
+  pair-clean :
+      (p : ℕ) → p ≤ endOf w
+      → firstBroken (pairChecks card w (quadwords (endOf w)) (quadwords p) (controlAt w p) (lowAt w p) (highAt w p)) ≡ Accepted
   unfolding firstChecks
-  pair-clean p l = left-clean (pairChecks card w (quadwords (endOf w)) (quadwords p) (controlAt w p) (lowAt w p) (highAt w p)) _ (j .first p l)
+  pair-clean p l =
+      left-clean (pairChecks card w (quadwords (endOf w)) (quadwords p) (controlAt w p) (lowAt w p) (highAt w p)) _ (j .first p l)
 
   stack-clean : (p : ℕ) → p ≤ endOf w → firstBroken (stackChecks (card .stack) (endOf w) (flowAt w) p) ≡ Accepted
   unfolding firstChecks
-  stack-clean p l = right-clean (pairChecks card w (quadwords (endOf w)) (quadwords p) (controlAt w p) (lowAt w p) (highAt w p)) _ (j .first p l)
+  stack-clean p l =
+      right-clean (pairChecks card w (quadwords (endOf w)) (quadwords p) (controlAt w p) (lowAt w p) (highAt w p)) _
+      (j .first p l)
 
   safe-at : (s : State) → Sound (card .stack) (endOf w) (flowAt w) s → Safe card w s
   safe-at s k =

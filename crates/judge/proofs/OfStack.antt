@@ -17,19 +17,24 @@ use Rattle.judge.specs.declared.stack.Ahead.{Ahead}
 use Rattle.judge.specs.declared.stack.Ahead.the-variants.{Broken, Next}
 use Rattle.judge.specs.Passing.{Ready, StackFound}
 
-module _ (w : List ℕ) (limit e p : ℕ) (s : Frames) (tops marks : List ℕ) {flow : Flow} (here : flow ≡ flowAt w p) (ready : Ready (flowAt w) limit p s tops marks) {m : Moved} (g : m ≡ followed limit flow (p + 1) s tops marks) where
+module _ (w : List ℕ) (limit e p : ℕ) (s : Frames) (tops marks : List ℕ) {flow : Flow} (here : flow ≡ flowAt w p)
+    (ready : Ready (flowAt w) limit p s tops marks) {m : Moved} (g : m ≡ followed limit flow (p + 1) s tops marks) where
   step : m ≡ followed limit (flowAt w p) (suc p) s tops marks
   step = at-place limit (flowAt w) p s tops marks flow m here g
 
-  refused : {a : Ahead} → (m ≡ Lacks) ⊎ (m ≡ TooDeep) → a ≡ Broken StackFrames (Quadword (quadwords p)) (slots 0) → StackFound limit e (flowAt w) p a
+  refused :
+      {a : Ahead} → (m ≡ Lacks) ⊎ (m ≡ TooDeep) → a ≡ Broken StackFrames (Quadword (quadwords p)) (slots 0)
+      → StackFound limit e (flowAt w) p a
   refused q f =
       subst (StackFound limit e (flowAt w) p) (sym f)
       (frames-refused limit (flowAt w) p s (ready .held) tops marks (ready .recorded) m step e q)
 
-  pub found-lacks : {a : Ahead} → m ≡ Lacks → a ≡ Broken StackFrames (Quadword (quadwords p)) (slots 0) → StackFound limit e (flowAt w) p a
+  pub found-lacks :
+      {a : Ahead} → m ≡ Lacks → a ≡ Broken StackFrames (Quadword (quadwords p)) (slots 0) → StackFound limit e (flowAt w) p a
   found-lacks q f = refused (inl q) f
 
-  pub found-deep : {a : Ahead} → m ≡ TooDeep → a ≡ Broken StackFrames (Quadword (quadwords p)) (slots 0) → StackFound limit e (flowAt w) p a
+  pub found-deep :
+      {a : Ahead} → m ≡ TooDeep → a ≡ Broken StackFrames (Quadword (quadwords p)) (slots 0) → StackFound limit e (flowAt w) p a
   found-deep q f = refused (inr q) f
 
   module _ {f : Frames} (q : m ≡ To f) where
@@ -44,7 +49,9 @@ module _ (w : List ℕ) (limit e p : ℕ) (s : Frames) (tops marks : List ℕ) {
     pub found-end : p ≡ e → s .depth ≡ 0 → StackFound limit e (flowAt w) p (Next f)
     found-end h d = goes (λ k. d)
 
-    pub found-left : {a : Ahead} → p ≡ e → (s .depth ≡ 0 → ⊥) → a ≡ Broken StackAtEnd (Quadword (quadwords p)) (slots 0) → StackFound limit e (flowAt w) p a
+    pub found-left :
+        {a : Ahead} → p ≡ e → (s .depth ≡ 0 → ⊥) → a ≡ Broken StackAtEnd (Quadword (quadwords p)) (slots 0)
+        → StackFound limit e (flowAt w) p a
     found-left h d b =
         subst (StackFound limit e (flowAt w) p) (sym b)
         (end-refused limit (flowAt w) p s (ready .held) tops marks (ready .recorded) m step e f q (ready .not-deep) h d)

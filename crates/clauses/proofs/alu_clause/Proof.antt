@@ -75,7 +75,9 @@ returns-2 c =
     let tested = low .before .before in
     let a = tested .before .before .args in
     let f = frame (now (a .words)) (a .start) (a .slots) _ _ (search needs) (tested .is-inside .ensures) (low .before .if1 .left) (low .low-word .ensures) in
-    clause-refused _ (a .limits) (now (a .words)) (a .place) _ _ (a .kind) (a .push-before) (a .start) (a .slots) (sym (tested .is-inside .ensures) ∙ not-false _ (low .before .if1 .left)) (c .before .before .before .before .before .before .is-pixel .ensures) (f .0) refl
+    clause-refused _ (a .limits) (now (a .words)) (a .place) _ _ (a .kind) (a .push-before) (a .start) (a .slots)
+    (sym (tested .is-inside .ensures) ∙ not-false _ (low .before .if1 .left))
+    (c .before .before .before .before .before .before .is-pixel .ensures) (f .0) refl
     (along-no-size _ (a .limits) (now (a .words)) (a .place) _ _ _ _ (c .before .before .before .read-group .ensures) (c .before .before .before .before .before .loop .inv) (c .before .before .before .before .loop-test .taken) (c .before .if2 .taken))
     (c .refused .ensures)
 
@@ -89,7 +91,9 @@ returns-3 c =
     let tested = low .before .before in
     let a = tested .before .before .args in
     let f = frame (now (a .words)) (a .start) (a .slots) _ _ (search needs) (tested .is-inside .ensures) (low .before .if1 .left) (low .low-word .ensures) in
-    clause-refused _ (a .limits) (now (a .words)) (a .place) _ _ (a .kind) (a .push-before) (a .start) (a .slots) (sym (tested .is-inside .ensures) ∙ not-false _ (low .before .if1 .left)) (c .before .before .before .before .before .before .before .is-pixel .ensures) (f .0) refl
+    clause-refused _ (a .limits) (now (a .words)) (a .place) _ _ (a .kind) (a .push-before) (a .start) (a .slots)
+    (sym (tested .is-inside .ensures) ∙ not-false _ (low .before .if1 .left))
+    (c .before .before .before .before .before .before .before .is-pixel .ensures) (f .0) refl
     (along-too-long _ (a .limits) (now (a .words)) (a .place) _ _ _ _ (c .before .before .before .before .read-group .ensures) (c .before .before .before .before .before .before .loop .inv) (c .before .before .before .before .before .loop-test .taken) (c .before .if3 .taken))
     (c .refused2 .ensures)
 
@@ -117,7 +121,9 @@ returns-4 c =
     let tested = low .before .before in
     let a = tested .before .before .args in
     let f = frame (now (a .words)) (a .start) (a .slots) _ _ (search needs) (tested .is-inside .ensures) (low .before .if1 .left) (low .low-word .ensures) in
-    clause-refused _ (a .limits) (now (a .words)) (a .place) _ _ (a .kind) (a .push-before) (a .start) (a .slots) (sym (tested .is-inside .ensures) ∙ not-false _ (low .before .if1 .left)) (c .before .before .before .before .before .before .before .before .before .before .before .is-pixel .ensures) (f .0) refl
+    clause-refused _ (a .limits) (now (a .words)) (a .place) _ _ (a .kind) (a .push-before) (a .start) (a .slots)
+    (sym (tested .is-inside .ensures) ∙ not-false _ (low .before .if1 .left))
+    (c .before .before .before .before .before .before .before .before .before .before .before .is-pixel .ensures) (f .0) refl
     (along-fault _ (a .limits) (now (a .words)) (a .place) _ _ _ _ (c .before .before .before .before .before .before .before .before .read-group .ensures) (c .before .before .before .before .before .before .before .before .before .before .loop .inv) (c .before .before .before .before .before .before .before .before .before .loop-test .taken) (c .before .before .before .before .before .before .if2 .left) (c .before .before .before .before .before .if3 .left) (c .before .before .before .before .group-fault .ensures) (c .before .before .fault .given .1))
     (c .refused3 .ensures)
 
@@ -142,7 +148,14 @@ loop-again c =
     let low = c .before .before .before .before .before .before .before .before .before .before .before .before .before in
     let tested = low .before .before in
     let a = tested .before .before .args in
-    along-next _ (a .limits) (now (a .words)) (a .place) _ _ _ _ (c .before .before .before .before .before .before .before .before .before .read-group .ensures) (c .before .before .before .before .before .before .before .before .before .before .before .loop .inv) (c .before .before .before .before .before .before .before .before .before .before .loop-test .taken) (c .before .before .before .before .before .before .before .if2 .left) (c .before .before .before .before .before .before .if3 .left) (c .before .before .before .before .before .group-fault .ensures) (c .before .before .before .enum-told .given .1) refl (c .together .ensures)
+    along-next _ (a .limits) (now (a .words)) (a .place) _ _ _ _
+    (c .before .before .before .before .before .before .before .before .before .read-group .ensures)
+    (c .before .before .before .before .before .before .before .before .before .before .before .loop .inv)
+    (c .before .before .before .before .before .before .before .before .before .before .loop-test .taken)
+    (c .before .before .before .before .before .before .before .if2 .left)
+    (c .before .before .before .before .before .before .if3 .left)
+    (c .before .before .before .before .before .group-fault .ensures) (c .before .before .before .enum-told .given .1) refl
+    (c .together .ensures)
 
 returns-5 : tie.Need-returns-5 Inv-loop μ-loop
 returns-5 c =
@@ -150,7 +163,9 @@ returns-5 c =
     let tested = low .before .before in
     let a = tested .before .before .args in
     let f = frame (now (a .words)) (a .start) (a .slots) _ _ (search needs) (tested .is-inside .ensures) (low .before .if1 .left) (low .low-word .ensures) in
-    clause-done _ (a .limits) (now (a .words)) (a .place) _ _ (a .kind) (a .push-before) (a .start) (a .slots) (sym (tested .is-inside .ensures) ∙ not-false _ (low .before .if1 .left)) (c .before .before .before .is-pixel .ensures) (f .0) refl
+    clause-done _ (a .limits) (now (a .words)) (a .place) _ _ (a .kind) (a .push-before) (a .start) (a .slots)
+    (sym (tested .is-inside .ensures) ∙ not-false _ (low .before .if1 .left)) (c .before .before .before .is-pixel .ensures)
+    (f .0) refl
     (c .before .before .loop .inv) (c .before .loop-test .left) (c .push-verdict .ensures)
 
 pub alu-clause-spec : {M : Type 1} → statement M

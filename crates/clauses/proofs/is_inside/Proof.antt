@@ -12,7 +12,8 @@ returns c =
     let a = c .before .before .before .before .args in
     let h : a .length < 2 ^ 64 = search needs in
     c .is-at-most .ensures
-    ∙ (λ i. isAtMost ((c .before .before .range-end .ensures ∙ (λ j. rangeEnd (a .start) (c .before .before .before .slots-length .ensures j))) i) (c .before .whole-quadwords .ensures i))
+    ∙
+    (λ i. isAtMost ((c .before .before .range-end .ensures ∙ (λ j. rangeEnd (a .start) (c .before .before .before .slots-length .ensures j))) i) (c .before .whole-quadwords .ensures i))
     ∙ inside (a .length) (a .start) (a .slots) h
 
 pub is-inside-spec : {M : Type 1} → statement M

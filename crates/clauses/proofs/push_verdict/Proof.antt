@@ -6,7 +6,8 @@ use Rattle.clauses.proofs.push_verdict.Tie as tie
 returns : tie.Need-returns
 returns c =
     let a = c .before .before .before .args in
-    push-refused (a .push-before) (a .setters) (a .place) _ _ (c .before .before .is-one .ensures) (c .before .if1 .taken) (c .refused .ensures)
+    push-refused (a .push-before) (a .setters) (a .place) _ _ (c .before .before .is-one .ensures) (c .before .if1 .taken)
+    (c .refused .ensures)
 
 returns-2 : tie.Need-returns-2
 returns-2 c =

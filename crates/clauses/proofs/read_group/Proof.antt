@@ -25,10 +25,15 @@ shared-slice-read-first : tie.Need-shared-slice-read-first Inv-loop μ-loop
 shared-slice-read-first c = omega (arith, c .before .before .pre .some, c .before .before .pre .inside)
 
 loop-holds : tie.Need-loop-holds Inv-loop μ-loop
-loop-holds c = let a = c .before .before .before .args in reading-none (now (a .words)) (a .at) (a .left) (a .limits) (first-high (now (a .words)) (a .at)) (c .none-seen .ensures)
+loop-holds c =
+    let a = c .before .before .before .args in
+    reading-none (now (a .words)) (a .at) (a .left) (a .limits) (first-high (now (a .words)) (a .at)) (c .none-seen .ensures)
 
 returns : tie.Need-returns Inv-loop μ-loop
-returns c = let a = c .before .before .before .before .before .before .before .args in reading-short (now (a .words)) (a .at) (a .left) (a .limits) (c .before .before .before .loop .inv) (c .before .before .loop-test .taken) (c .before .if1 .taken) (c .no-group .ensures)
+returns c =
+    let a = c .before .before .before .before .before .before .before .args in
+    reading-short (now (a .words)) (a .at) (a .left) (a .limits) (c .before .before .before .loop .inv)
+    (c .before .before .loop-test .taken) (c .before .if1 .taken) (c .no-group .ensures)
 
 mul-low : tie.Need-mul-low Inv-loop μ-loop
 mul-low c = omega (arith, c .before .before .before .before .before .before .pre .inside)
@@ -62,17 +67,30 @@ add-j c = omega arith
 
 returns-2 : tie.Need-returns-2 Inv-loop μ-loop
 unfolding lowOf highOf
-returns-2 c = let a = c .before .before .before .before .before .before .before .before .before .before .before .args in reading-last (now (a .words)) (a .at) (a .left) (a .limits) (c .before .before .before .before .before .before .before .loop .inv) (c .before .before .before .before .before .before .loop-test .taken) (c .before .before .before .before .before .if1 .left) refl refl (c .before .before .read-instruction .ensures) (c .before .field .ensures) (c .if2 .taken)
+returns-2 c =
+    let a = c .before .before .before .before .before .before .before .before .before .before .before .args in
+    reading-last (now (a .words)) (a .at) (a .left) (a .limits)
+    (c .before .before .before .before .before .before .before .loop .inv)
+    (c .before .before .before .before .before .before .loop-test .taken) (c .before .before .before .before .before .if1 .left)
+    refl refl (c .before .before .read-instruction .ensures) (c .before .field .ensures) (c .if2 .taken)
 
 loop-less : tie.Need-loop-less Inv-loop μ-loop
 loop-less c = omega arith
 
 loop-again : tie.Need-loop-again Inv-loop μ-loop
 unfolding lowOf highOf
-loop-again c = let a = c .before .before .before .before .before .before .before .before .before .before .before .args in reading-next (now (a .words)) (a .at) (a .left) (a .limits) (c .before .before .before .before .before .before .before .loop .inv) (c .before .before .before .before .before .before .loop-test .taken) (c .before .before .before .before .before .if1 .left) refl refl (c .before .before .read-instruction .ensures) (c .before .field .ensures) (c .if2 .left)
+loop-again c =
+    let a = c .before .before .before .before .before .before .before .before .before .before .before .args in
+    reading-next (now (a .words)) (a .at) (a .left) (a .limits)
+    (c .before .before .before .before .before .before .before .loop .inv)
+    (c .before .before .before .before .before .before .loop-test .taken) (c .before .before .before .before .before .if1 .left)
+    refl refl (c .before .before .read-instruction .ensures) (c .before .field .ensures) (c .if2 .left)
 
 returns-3 : tie.Need-returns-3 Inv-loop μ-loop
-returns-3 c = let a = c .before .before .before .before .before .before .args in reading-five (now (a .words)) (a .at) (a .left) (a .limits) (c .before .before .loop .inv) (c .before .loop-test .left) (c .no-group2 .ensures)
+returns-3 c =
+    let a = c .before .before .before .before .before .before .args in
+    reading-five (now (a .words)) (a .at) (a .left) (a .limits) (c .before .before .loop .inv) (c .before .loop-test .left)
+    (c .no-group2 .ensures)
 
 pub read-group-spec : {M : Type 1} → statement M
 read-group-spec =

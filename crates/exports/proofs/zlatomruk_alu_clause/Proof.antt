@@ -19,7 +19,8 @@ returns c =
     ∙ (λ i.
     packed
     ((c .before .alu-clause .ensures
-    ∙ (λ j. firstBroken (clauseChecks (asked .kind-of .ensures j) (not (eqb (a .push-before) 0)) (limitsOf (a .gprs) (a .temps) (a .consts) (a .modes)) (now (a .words)) (quadwords 0) (quadwords (a .start)) (slots (a .count)))))
+    ∙
+    (λ j. firstBroken (clauseChecks (asked .kind-of .ensures j) (not (eqb (a .push-before) 0)) (limitsOf (a .gprs) (a .temps) (a .consts) (a .modes)) (now (a .words)) (quadwords 0) (quadwords (a .start)) (slots (a .count)))))
     i))
 
 pub zlatomruk-alu-clause-spec : {M : Type 1} → statement M

@@ -26,4 +26,6 @@ unfolding isReduction
 returns-5 c = ap isReduction (sym (c .enum-told5 .given .1))
 
 pub is-reduction-spec : {M : Type 1} → statement M
-is-reduction-spec = tie.close (tie.spec (λ c. search needs) (λ c. search needs) (λ c. search needs) (λ c. search needs) (λ c. search needs) returns returns-2 returns-3 returns-4 returns-5)
+is-reduction-spec =
+    tie.close
+    (tie.spec (λ c. search needs) (λ c. search needs) (λ c. search needs) (λ c. search needs) (λ c. search needs) returns returns-2 returns-3 returns-4 returns-5)

@@ -26,4 +26,6 @@ unfolding isSetter
 returns-5 c = ap isSetter (sym (c .enum-told5 .given .1))
 
 pub is-setter-spec : {M : Type 1} → statement M
-is-setter-spec = tie.close (tie.spec (λ c. search needs) (λ c. search needs) (λ c. search needs) (λ c. search needs) (λ c. search needs) returns returns-2 returns-3 returns-4 returns-5)
+is-setter-spec =
+    tie.close
+    (tie.spec (λ c. search needs) (λ c. search needs) (λ c. search needs) (λ c. search needs) (λ c. search needs) returns returns-2 returns-3 returns-4 returns-5)

@@ -5,10 +5,13 @@ use Rattle.groups.proofs.or_here.Statement.{statement}
 use Rattle.groups.proofs.or_here.Tie as tie
 
 returns : tie.Need-returns
-returns c = let a = c .before .before .before .args in here (a .first) (a .j) (a .broken) (c .before .enum-told .given .1) (c .if1 .taken)
+returns c =
+    let a = c .before .before .before .args in here (a .first) (a .j) (a .broken) (c .before .enum-told .given .1) (c .if1 .taken)
 
 returns-2 : tie.Need-returns-2
-returns-2 c = let a = c .before .before .before .args in not-here (a .first) (a .j) (a .broken) (c .before .enum-told .given .1) (c .if1 .left)
+returns-2 c =
+    let a = c .before .before .before .args in
+    not-here (a .first) (a .j) (a .broken) (c .before .enum-told .given .1) (c .if1 .left)
 
 returns-3 : tie.Need-returns-3
 returns-3 c = let a = c .before .before .before .args in earlier (a .first) (a .j) (a .broken) _ (c .before .first .given .1)

@@ -13,4 +13,5 @@ returns c =
     (asked isRelative (c .before .third-source .ensures) (c .is-relative3 .ensures))
 
 pub has-relative-spec : {M : Type 1} → statement M
-has-relative-spec = tie.close (tie.spec (λ c κs. tt) (λ c κs. tt) (λ c κs. tt) (λ c κs. tt) (λ c κs. tt) (λ c κs. tt) (λ c κs. tt) returns)
+has-relative-spec =
+    tie.close (tie.spec (λ c κs. tt) (λ c κs. tt) (λ c κs. tt) (λ c κs. tt) (λ c κs. tt) (λ c κs. tt) (λ c κs. tt) returns)

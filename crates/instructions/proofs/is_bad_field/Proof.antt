@@ -7,10 +7,14 @@ use Rattle.instructions.proofs.is_bad_field.Tie as tie
 returns : tie.Need-returns
 returns c =
     let a = c .before .before .before .before .before .before .before .before .before .args in
-    field-tests (a .low) (a .high) (c .before .before .before .before .before .before .before .before .field .ensures) (c .before .before .before .before .before .before .before .field2 .ensures) (c .before .before .before .before .before .before .field3 .ensures)
+    field-tests (a .low) (a .high) (c .before .before .before .before .before .before .before .before .field .ensures)
+    (c .before .before .before .before .before .before .before .field2 .ensures)
+    (c .before .before .before .before .before .before .field3 .ensures)
     (asked badSource (c .before .before .before .before .before .source0 .ensures) (c .before .before .before .before .is-bad-source .ensures))
     (asked badSource (c .before .before .before .source1 .ensures) (c .before .before .is-bad-source2 .ensures))
     (asked badSource (c .before .third-source .ensures) (c .is-bad-source3 .ensures))
 
 pub is-bad-field-spec : {M : Type 1} → statement M
-is-bad-field-spec = tie.close (tie.spec (λ c κs. tt) (λ c κs. tt) (λ c κs. tt) (λ c κs. tt) (λ c κs. tt) (λ c κs. tt) (λ c κs. tt) (λ c κs. tt) (λ c κs. tt) returns)
+is-bad-field-spec =
+    tie.close
+    (tie.spec (λ c κs. tt) (λ c κs. tt) (λ c κs. tt) (λ c κs. tt) (λ c κs. tt) (λ c κs. tt) (λ c κs. tt) (λ c κs. tt) (λ c κs. tt) returns)

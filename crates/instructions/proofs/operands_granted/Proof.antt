@@ -15,4 +15,5 @@ returns c =
     (asked (λ (s : Source). allGranted (a .limits) (namesOf s)) (c .before .third-source .ensures) (c .source-granted3 .ensures))
 
 pub operands-granted-spec : {M : Type 1} → statement M
-operands-granted-spec = tie.close (tie.spec (λ c κs. tt) (λ c κs. tt) (λ c κs. tt) (λ c κs. tt) (λ c κs. tt) (λ c κs. tt) (λ c κs. tt) returns)
+operands-granted-spec =
+    tie.close (tie.spec (λ c κs. tt) (λ c κs. tt) (λ c κs. tt) (λ c κs. tt) (λ c κs. tt) (λ c κs. tt) (λ c κs. tt) returns)

@@ -3,7 +3,8 @@ use Rattle.instructions.proofs.source1.Statement.{statement}
 use Rattle.instructions.proofs.source1.Tie as tie
 
 returns : tie.Need-returns
-returns c = λ i. record { sel = c .before .before .field .ensures i; rel = c .before .field2 .ensures i; chan = c .field3 .ensures i }
+returns c =
+    λ i. record { sel = c .before .before .field .ensures i; rel = c .before .field2 .ensures i; chan = c .field3 .ensures i }
 
 pub source1-spec : {M : Type 1} → statement M
 source1-spec =

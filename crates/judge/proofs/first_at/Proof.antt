@@ -15,19 +15,29 @@ mul-low-2 : tie.Need-mul-low-2
 mul-low-2 c = omega (arith, c .before .before .before .pre .0 .in-words .in-buffer, c .before .before .before .pre .0 .in-section)
 
 shared-slice-read-low : tie.Need-shared-slice-read-low
-shared-slice-read-low c = omega (arith, c .before .before .before .before .pre .0 .in-words .in-buffer, c .before .before .before .before .pre .0 .in-section)
+shared-slice-read-low c =
+    omega
+    (arith, c .before .before .before .before .pre .0 .in-words .in-buffer, c .before .before .before .before .pre .0 .in-section)
 
 mul-high : tie.Need-mul-high
-mul-high c = omega (arith, c .before .before .before .before .pre .0 .in-words .in-buffer, c .before .before .before .before .pre .0 .in-section)
+mul-high c =
+    omega
+    (arith, c .before .before .before .before .pre .0 .in-words .in-buffer, c .before .before .before .before .pre .0 .in-section)
 
 add-high : tie.Need-add-high
-add-high c = omega (arith, c .before .before .before .before .pre .0 .in-words .in-buffer, c .before .before .before .before .pre .0 .in-section)
+add-high c =
+    omega
+    (arith, c .before .before .before .before .pre .0 .in-words .in-buffer, c .before .before .before .before .pre .0 .in-section)
 
 mul-high-2 : tie.Need-mul-high-2
-mul-high-2 c = omega (arith, c .before .before .before .before .pre .0 .in-words .in-buffer, c .before .before .before .before .pre .0 .in-section)
+mul-high-2 c =
+    omega
+    (arith, c .before .before .before .before .pre .0 .in-words .in-buffer, c .before .before .before .before .pre .0 .in-section)
 
 shared-slice-read-high : tie.Need-shared-slice-read-high
-shared-slice-read-high c = omega (arith, c .before .before .before .before .before .pre .0 .in-words .in-buffer, c .before .before .before .before .before .pre .0 .in-section)
+shared-slice-read-high c =
+    omega
+    (arith, c .before .before .before .before .before .pre .0 .in-words .in-buffer, c .before .before .before .before .before .pre .0 .in-section)
 
 stack-at-requires : tie.Need-stack-at-requires
 unfolding lowAt highAt
@@ -41,14 +51,18 @@ unfolding lowAt highAt
 returns c =
     let z = c .before .before .before .before .before .before .before .before .before .before in
     let a = z .args in
-    found-pair (a .card) (now (a .words)) (a .e) (a .p) refl refl (c .before .before .before .before .control-of .ensures) (c .before .before .before .pair-verdict .ensures) (c .before .verdict .given .1)
+    found-pair (a .card) (now (a .words)) (a .e) (a .p) refl refl (c .before .before .before .before .control-of .ensures)
+    (c .before .before .before .pair-verdict .ensures) (c .before .verdict .given .1)
 
 returns-2 : tie.Need-returns-2
 unfolding lowAt highAt
 returns-2 c =
     let z = c .before .before .before .before .before .before .before .before .before .before .before .before in
     let a = z .args in
-    found-stack (a .card) (now (a .words)) (a .e) (a .p) refl refl (c .before .before .before .before .before .before .control-of .ensures) (c .before .before .before .before .before .pair-verdict .ensures) (c .stack-at .result) (c .before .before .before .enum-told .given .1) (c .stack-at .ensures)
+    found-stack (a .card) (now (a .words)) (a .e) (a .p) refl refl
+    (c .before .before .before .before .before .before .control-of .ensures)
+    (c .before .before .before .before .before .pair-verdict .ensures) (c .stack-at .result)
+    (c .before .before .before .enum-told .given .1) (c .stack-at .ensures)
 
 pub first-at-spec : {M : Type 1} → statement M
 first-at-spec =

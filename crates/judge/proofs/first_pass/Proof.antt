@@ -23,30 +23,44 @@ first-at-requires c κs =
     (record { in-words = z .pre .in-words; in-section = c .before .before .loop-test .taken }, c .before .before .before .loop .inv .ready)
 
 mul-tops : tie.Need-mul-tops Inv-loop μ-loop
-mul-tops c = omega (arith, c .before .before .before .before .before .before .before .before .pre .tops-room, c .before .before .before .before .before .before .before .before .pre .marks-room, c .before .before .before .before .loop .inv .tops-room, c .before .before .before .before .loop .inv .marks-room)
+mul-tops c =
+    omega
+    (arith, c .before .before .before .before .before .before .before .before .pre .tops-room, c .before .before .before .before .before .before .before .before .pre .marks-room, c .before .before .before .before .loop .inv .tops-room, c .before .before .before .before .loop .inv .marks-room)
 
 slice-write-tops : tie.Need-slice-write-tops Inv-loop μ-loop
-slice-write-tops c = omega (arith, c .before .before .before .before .before .before .before .before .pre .tops-room, c .before .before .before .before .before .before .before .before .pre .marks-room, c .before .before .before .before .loop .inv .tops-room, c .before .before .before .before .loop .inv .marks-room)
+slice-write-tops c =
+    omega
+    (arith, c .before .before .before .before .before .before .before .before .pre .tops-room, c .before .before .before .before .before .before .before .before .pre .marks-room, c .before .before .before .before .loop .inv .tops-room, c .before .before .before .before .loop .inv .marks-room)
 
 mul-marks : tie.Need-mul-marks Inv-loop μ-loop
-mul-marks c = omega (arith, c .before .before .before .before .before .before .before .before .pre .tops-room, c .before .before .before .before .before .before .before .before .pre .marks-room, c .before .before .before .before .loop .inv .tops-room, c .before .before .before .before .loop .inv .marks-room)
+mul-marks c =
+    omega
+    (arith, c .before .before .before .before .before .before .before .before .pre .tops-room, c .before .before .before .before .before .before .before .before .pre .marks-room, c .before .before .before .before .loop .inv .tops-room, c .before .before .before .before .loop .inv .marks-room)
 
 slice-write-marks : tie.Need-slice-write-marks Inv-loop μ-loop
-slice-write-marks c = omega (arith, c .before .before .before .before .before .before .before .before .pre .tops-room, c .before .before .before .before .before .before .before .before .pre .marks-room, c .before .before .before .before .loop .inv .tops-room, c .before .before .before .before .loop .inv .marks-room)
+slice-write-marks c =
+    omega
+    (arith, c .before .before .before .before .before .before .before .before .pre .tops-room, c .before .before .before .before .before .before .before .before .pre .marks-room, c .before .before .before .before .loop .inv .tops-room, c .before .before .before .before .loop .inv .marks-room)
 
 same-length : tie.Need-same-length Inv-loop μ-loop
 same-length c = simp length-set (omega (arith, c .before .before .before .before .before .before .before .loop .inv .tops-room))
 
 same-length-2 : tie.Need-same-length-2 Inv-loop μ-loop
-same-length-2 c = simp length-set (omega (arith, c .before .before .before .before .before .before .before .loop .inv .marks-room))
+same-length-2 c =
+    simp length-set (omega (arith, c .before .before .before .before .before .before .before .loop .inv .marks-room))
 
 returns : tie.Need-returns Inv-loop μ-loop
 returns c =
     let a = c .before .before .before .before .before .before .before .before .before .before .before .args in
-    passing-found (a .card) (now (a .words)) (a .e) _ _ _ _ _ _ (c .before .before .before .before .before .before .before .loop .inv) (c .before .before .before .before .before .before .loop-test .taken) (c .before .before .before .first-at .ensures) (c .before .ahead .given .1)
+    passing-found (a .card) (now (a .words)) (a .e) _ _ _ _ _ _
+    (c .before .before .before .before .before .before .before .loop .inv)
+    (c .before .before .before .before .before .before .loop-test .taken) (c .before .before .before .first-at .ensures)
+    (c .before .ahead .given .1)
 
 add-p : tie.Need-add-p Inv-loop μ-loop
-add-p c = omega (arith, c .before .before .before .before .before .before .before .before .before .before .before .pre .in-words .among-512)
+add-p c =
+    omega
+    (arith, c .before .before .before .before .before .before .before .before .before .before .before .pre .in-words .among-512)
 
 loop-less : tie.Need-loop-less Inv-loop μ-loop
 loop-less c = omega arith
@@ -54,7 +68,12 @@ loop-less c = omega arith
 loop-again : tie.Need-loop-again Inv-loop μ-loop
 loop-again c =
     let a = c .before .before .before .before .before .before .before .before .before .before .before .args in
-    passing-next (a .card) (now (a .words)) (a .e) _ _ _ _ _ _ (c .before .before .before .before .before .before .before .loop .inv) (c .before .before .before .before .before .before .before .before .before .before .before .pre .tops-room) (c .before .before .before .before .before .before .before .before .before .before .before .pre .marks-room) (c .before .before .before .before .before .before .loop-test .taken) (c .before .before .before .first-at .ensures) (c .before .ahead2 .given .1)
+    passing-next (a .card) (now (a .words)) (a .e) _ _ _ _ _ _
+    (c .before .before .before .before .before .before .before .loop .inv)
+    (c .before .before .before .before .before .before .before .before .before .before .before .pre .tops-room)
+    (c .before .before .before .before .before .before .before .before .before .before .before .pre .marks-room)
+    (c .before .before .before .before .before .before .loop-test .taken) (c .before .before .before .first-at .ensures)
+    (c .before .ahead2 .given .1)
 
 same-length-3 : tie.Need-same-length-3 Inv-loop μ-loop
 same-length-3 c = omega (arith, c .before .loop .inv .tops-room)

@@ -13,27 +13,41 @@ returns c =
 returns-2 : tie.Need-returns-2
 returns-2 c =
     let a = c .before .before .before .before .before .before .before .args in
-    bad-length (a .card) (now (a .words)) (c .before .before .before .before .before .check-card .ensures) (c .before .before .before .enum-told .given .1) (c .before .before .is-bad-length .ensures) (c .before .if1 .taken) (c .refused-whole .ensures)
+    bad-length (a .card) (now (a .words)) (c .before .before .before .before .before .check-card .ensures)
+    (c .before .before .before .enum-told .given .1) (c .before .before .is-bad-length .ensures) (c .before .if1 .taken)
+    (c .refused-whole .ensures)
 
 returns-3 : tie.Need-returns-3
 returns-3 c =
     let a = c .before .before .before .before .before .before .before .before .before .before .before .args in
-    no-end (a .card) (now (a .words)) (c .before .before .before .before .before .before .before .before .before .check-card .ensures) (c .before .before .before .before .before .before .before .enum-told .given .1) (c .before .before .before .before .before .before .is-bad-length .ensures) (c .before .before .before .before .before .if1 .left)
-    (c .before .before .before .before .searched-pairs .ensures) (c .before .before .before .find-end .ensures) (c .before .before .is-at-most .ensures)
+    no-end (a .card) (now (a .words))
+    (c .before .before .before .before .before .before .before .before .before .check-card .ensures)
+    (c .before .before .before .before .before .before .before .enum-told .given .1)
+    (c .before .before .before .before .before .before .is-bad-length .ensures)
+    (c .before .before .before .before .before .if1 .left)
+    (c .before .before .before .before .searched-pairs .ensures) (c .before .before .before .find-end .ensures)
+    (c .before .before .is-at-most .ensures)
     (c .before .if2 .taken) (c .refused-whole2 .ensures)
 
 both-passes-requires : tie.Need-both-passes-requires
 both-passes-requires c κs =
     let a = c .before .before .before .before .before .before .before .before .before .before .args in
-    in-words (a .card) (now (a .words)) (c .before .before .before .before .before .before .before .before .check-card .ensures) (c .before .before .before .before .before .before .enum-told .given .1) (c .before .before .before .before .before .is-bad-length .ensures) (c .before .before .before .before .if1 .left)
+    in-words (a .card) (now (a .words)) (c .before .before .before .before .before .before .before .before .check-card .ensures)
+    (c .before .before .before .before .before .before .enum-told .given .1)
+    (c .before .before .before .before .before .is-bad-length .ensures) (c .before .before .before .before .if1 .left)
     (c .before .before .before .searched-pairs .ensures) (c .before .before .find-end .ensures) (c .before .is-at-most .ensures)
     (c .if2 .left)
 
 returns-4 : tie.Need-returns-4
 returns-4 c =
     let a = c .before .before .before .before .before .before .before .before .before .before .before .args in
-    by-passes (a .card) (now (a .words)) (c .before .before .before .before .before .before .before .before .before .check-card .ensures) (c .before .before .before .before .before .before .before .enum-told .given .1) (c .before .before .before .before .before .before .is-bad-length .ensures) (c .before .before .before .before .before .if1 .left)
-    (c .before .before .before .before .searched-pairs .ensures) (c .before .before .before .find-end .ensures) (c .before .before .is-at-most .ensures)
+    by-passes (a .card) (now (a .words))
+    (c .before .before .before .before .before .before .before .before .before .check-card .ensures)
+    (c .before .before .before .before .before .before .before .enum-told .given .1)
+    (c .before .before .before .before .before .before .is-bad-length .ensures)
+    (c .before .before .before .before .before .if1 .left)
+    (c .before .before .before .before .searched-pairs .ensures) (c .before .before .before .find-end .ensures)
+    (c .before .before .is-at-most .ensures)
     (c .before .if2 .left) (c .both-passes .ensures)
 
 pub judge-spec : {M : Type 1} → statement M

@@ -8,7 +8,8 @@ use Rattle.judge.proofs.judge_bytes.Tie as tie
 returns : tie.Need-returns
 returns c =
     let a = c .before .before .before .before .before .before .before .args in
-    by-card (now (a .bytes)) (now (a .words)) (c .before .before .before .before .read-card .ensures) (c .before .before .read .given .1) (c .judge .ensures .0) (c .judge .ensures .1)
+    by-card (now (a .bytes)) (now (a .words)) (c .before .before .before .before .read-card .ensures)
+    (c .before .before .read .given .1) (c .judge .ensures .0) (c .judge .ensures .1)
 
 returns-2 : tie.Need-returns-2
 returns-2 c =

@@ -10,7 +10,9 @@ first-pass-requires : tie.Need-first-pass-requires
 first-pass-requires c κs = c .before .before .before .before .before .pre
 
 add-second-pass : tie.Need-add-second-pass
-add-second-pass c = omega (arith, c .before .before .before .before .before .before .before .before .before .before .before .before .pre .in-words .among-512)
+add-second-pass c =
+    omega
+    (arith, c .before .before .before .before .before .before .before .before .before .before .before .before .pre .in-words .among-512)
 
 same-length : tie.Need-same-length
 same-length c = search needs
@@ -27,7 +29,8 @@ same-length-4 c = search needs
 returns : tie.Need-returns
 returns c =
     let a = c .before .before .before .before .before .before .before .before .before .before .before .before .before .args in
-    in-first (a .card) (now (a .words)) (a .e) (c .before .before .before .before .before .before .before .first-pass .ensures .0) (c .before .first .given .1)
+    in-first (a .card) (now (a .words)) (a .e) (c .before .before .before .before .before .before .before .first-pass .ensures .0)
+    (c .before .first .given .1)
 
 returns-2 : tie.Need-returns-2
 returns-2 c =

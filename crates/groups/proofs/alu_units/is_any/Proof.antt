@@ -22,4 +22,6 @@ unfolding isAny
 returns-4 c = ap isAny (sym (c .enum-told4 .given .1))
 
 pub is-any-spec : {M : Type 1} → statement M
-is-any-spec = tie.close (tie.spec (λ c. search needs) (λ c. search needs) (λ c. search needs) (λ c. search needs) returns returns-2 returns-3 returns-4)
+is-any-spec =
+    tie.close
+    (tie.spec (λ c. search needs) (λ c. search needs) (λ c. search needs) (λ c. search needs) returns returns-2 returns-3 returns-4)

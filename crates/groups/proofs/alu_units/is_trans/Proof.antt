@@ -22,4 +22,6 @@ unfolding isTrans
 returns-4 c = ap isTrans (sym (c .enum-told4 .given .1))
 
 pub is-trans-spec : {M : Type 1} → statement M
-is-trans-spec = tie.close (tie.spec (λ c. search needs) (λ c. search needs) (λ c. search needs) (λ c. search needs) returns returns-2 returns-3 returns-4)
+is-trans-spec =
+    tie.close
+    (tie.spec (λ c. search needs) (λ c. search needs) (λ c. search needs) (λ c. search needs) returns returns-2 returns-3 returns-4)

@@ -10,15 +10,21 @@ returns c = let a = c .before .args in not-counted (a .yes) (a .count) (c .if1 .
 
 returns-2 : tie.Need-returns-2
 unfolding oneMore
-returns-2 c = let a = c .before .before .before .args in counted-more (a .yes) (a .count) _ (c .before .before .if1 .left) (c .enum-told .given .1)
+returns-2 c =
+    let a = c .before .before .before .args in
+    counted-more (a .yes) (a .count) _ (c .before .before .if1 .left) (c .enum-told .given .1)
 
 returns-3 : tie.Need-returns-3
 unfolding oneMore
-returns-3 c = let a = c .before .before .before .args in counted-more (a .yes) (a .count) _ (c .before .before .if1 .left) (c .enum-told2 .given .1)
+returns-3 c =
+    let a = c .before .before .before .args in
+    counted-more (a .yes) (a .count) _ (c .before .before .if1 .left) (c .enum-told2 .given .1)
 
 returns-4 : tie.Need-returns-4
 unfolding oneMore
-returns-4 c = let a = c .before .before .before .args in counted-more (a .yes) (a .count) _ (c .before .before .if1 .left) (c .enum-told3 .given .1)
+returns-4 c =
+    let a = c .before .before .before .args in
+    counted-more (a .yes) (a .count) _ (c .before .before .if1 .left) (c .enum-told3 .given .1)
 
 pub counted-if-spec : {M : Type 1} → statement M
 counted-if-spec =

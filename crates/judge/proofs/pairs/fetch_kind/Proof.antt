@@ -13,7 +13,9 @@ returns c = ap fetchKind (sym (c .enum-told .given .1))
 
 returns-2 : tie.Need-returns-2
 unfolding fetchKind controls
-returns-2 c = of-controls fetchKind _ (0 ∷ 1 ∷ 3 ∷ 4 ∷ 5 ∷ 6 ∷ 7 ∷ 8 ∷ 9 ∷ 10 ∷ 11 ∷ 12 ∷ 13 ∷ 14 ∷ 15 ∷ 16 ∷ 17 ∷ []) refl (c .before .args .control) (c .match .keys2)
+returns-2 c =
+    of-controls fetchKind _ (0 ∷ 1 ∷ 3 ∷ 4 ∷ 5 ∷ 6 ∷ 7 ∷ 8 ∷ 9 ∷ 10 ∷ 11 ∷ 12 ∷ 13 ∷ 14 ∷ 15 ∷ 16 ∷ 17 ∷ []) refl
+    (c .before .args .control) (c .match .keys2)
 
 pub fetch-kind-spec : {M : Type 1} → statement M
 fetch-kind-spec =

@@ -13,7 +13,9 @@ returns c = ap isPushBefore (sym (c .enum-told .given .1))
 
 returns-2 : tie.Need-returns-2
 unfolding isPushBefore controls
-returns-2 c = of-controls isPushBefore _ (0 ∷ 1 ∷ 2 ∷ 3 ∷ 4 ∷ 5 ∷ 6 ∷ 7 ∷ 8 ∷ 9 ∷ 10 ∷ 11 ∷ 12 ∷ 13 ∷ 14 ∷ 16 ∷ 17 ∷ []) refl (c .before .args .control) (c .match .keys2)
+returns-2 c =
+    of-controls isPushBefore _ (0 ∷ 1 ∷ 2 ∷ 3 ∷ 4 ∷ 5 ∷ 6 ∷ 7 ∷ 8 ∷ 9 ∷ 10 ∷ 11 ∷ 12 ∷ 13 ∷ 14 ∷ 16 ∷ 17 ∷ []) refl
+    (c .before .args .control) (c .match .keys2)
 
 pub is-push-before-spec : {M : Type 1} → statement M
 is-push-before-spec =
