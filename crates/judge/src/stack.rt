@@ -25,7 +25,7 @@ pub enum Ahead {
 }
 
 // `flow` is what stands at place p of the words, and e the section's end.
-pub fn stack_at(
+pub(crate) fn stack_at(
     words: &[u32],
     flow: Flow,
     limit: usize,
