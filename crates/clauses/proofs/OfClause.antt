@@ -1,11 +1,11 @@
 -- A clause, group by group: the groups passed break nothing, so the verdict is that of the groups left. Assumes nothing.
 use Prim.Native.Nat.{ℕ, zero, suc, _+_, _-_, _*_, _/_, _≤_, _<_, _^_}
 use mathlib.Core.Path.{_≡_, refl, sym, ap, _∙_, subst}
-use mathlib.Core.Bool.{Bool, true, false, cond, not, _&&_, _||_, or-true}
+use mathlib.Core.Bool.{Bool, true, false, cond, not, _&&_, or-true}
 use mathlib.Core.List.{List, [], _∷_, _++_}
 use lib.ListN.{length}
 use lib.Dec.{ltb, leb, eqb}
-use borrow.Author.Tests.{lt-ltb, le-ltb, eq-eqb, ne-eqb, le-leb, lt-leb, leb-true, leb-false, not-false, not-true}
+use borrow.Author.Tests.{lt-ltb, le-ltb, eq-eqb, ne-eqb, le-leb, lt-leb, leb-true, leb-false, not-false}
 use native.Mathlib.Omega.{arith}
 use Rattle.units.specs.declared.Quadwords.{Quadwords}
 use Rattle.units.specs.declared.Slots.{Slots}
@@ -14,7 +14,6 @@ use Rattle.units.specs.Units.{capped, words, slots, lowWord, rangeEnd, slotsLen
 use Rattle.units.proofs.OfUnits.{capped-exact}
 use Rattle.checks.specs.declared.Rule.{Rule}
 use Rattle.checks.specs.declared.Rule.the-variants.{GroupShape, IssueLimit}
-use Rattle.checks.specs.declared.Place.{Place}
 use Rattle.checks.specs.declared.Place.the-variants.{Quadword}
 use Rattle.checks.specs.declared.Verdict.{Verdict}
 use Rattle.checks.specs.declared.Verdict.the-variants.{Accepted, Refused}
@@ -26,7 +25,7 @@ use Rattle.groups.specs.declared.counts.Count.{Count}
 use Rattle.groups.specs.declared.counts.Count.the-variants.{Nothing}
 use Rattle.groups.specs.declared.GroupFault.{GroupFault}
 use Rattle.groups.specs.declared.GroupFault.the-variants.{Clean, Broken}
-use Rattle.groups.specs.Group.{literalsBelow, setters, ruleChecks}
+use Rattle.groups.specs.Group.{setters, ruleChecks}
 use Rattle.groups.specs.Seen.{countOf, together, isOne, issuesOf, seenOf, faultOf}
 use Rattle.groups.proofs.OfGroup.{counted-together, counts-one, answer, group-answer, FaultIn, fault-in}
 use Rattle.clauses.specs.declared.Group.{Group}

@@ -1,6 +1,6 @@
 -- An accepted clause names only what is granted: every instruction of every group. Assumes nothing.
 use Prim.Native.Nat.{ℕ, _*_, _<_}
-use mathlib.Core.Path.{_≡_, ap, subst, sym}
+use mathlib.Core.Path.{_≡_, subst, sym}
 use mathlib.Core.Bool.{Bool, true}
 use mathlib.Core.List.{List, [], _∷_, List·Memᴰ, List·Memᴰ·not-nil, List·Memᴰ·cases-cons}
 use mathlib.Core.Logic.{⊎-elim}
@@ -14,7 +14,7 @@ use Rattle.card.specs.declared.Kind.{Kind}
 use Rattle.grants.specs.declared.Limits.{Limits}
 use Rattle.grants.specs.Grants.{Name, granted}
 use Rattle.groups.proofs.OfGroup.{group-granted}
-use Rattle.clauses.specs.Clause.{lowOf, highOf, sizeOf, spanOf, wordOf, groupsOf, isPixel, mayKill, groupChecks, checksOf, insideBuffer, clauseChecks, sizeAt, namedAt}
+use Rattle.clauses.specs.Clause.{lowOf, highOf, wordOf, groupsOf, isPixel, groupChecks, checksOf, insideBuffer, clauseChecks, sizeAt, namedAt}
 
 module _ (pixel : Bool) (limits : Limits) (w : List ℕ) (place : Quadwords) (first n : ℕ) where
   -- each group of a list of groups that breaks nothing breaks nothing

@@ -1,6 +1,6 @@
 -- A verdict as one number, for C: the verdict's number in bits 7:0, the place in bits 31:8, the slot in bits 63:32.
 use Prim.Native.Nat.{ℕ, _+_, _*_, _/_, _%_, _^_}
-use mathlib.Core.Bool.{Bool, cond, not}
+use mathlib.Core.Bool.{cond}
 use lib.Dec.{eqb}
 use Rattle.checks.specs.declared.Verdict.{Verdict}
 use Rattle.checks.specs.Verdict.{verdictNumber, verdictPlace, verdictSlot}

@@ -6,7 +6,7 @@ use Prim.Native.Nat.{ℕ, zero, suc, _+_, _<_, _≤_}
 use native.Mathlib.Nat.{add-zero}
 use native.Mathlib.Omega.{arith}
 use lib.Dec.{eqb, ltb, eqb·zero-suc, eqb·suc-zero, eqb·suc-suc}
-use borrow.Author.Tests.{not-false, lt-ltb, le-ltb}
+use borrow.Author.Tests.{not-false, lt-ltb}
 use Rattle.units.specs.declared.Quadwords.{Quadwords}
 use Rattle.units.specs.Units.{slots}
 use Rattle.checks.specs.declared.Rule.{Rule}
@@ -15,13 +15,12 @@ use Rattle.checks.specs.declared.Place.the-variants.{Quadword}
 use Rattle.checks.specs.declared.Verdict.{Verdict}
 use Rattle.checks.specs.declared.Verdict.the-variants.{Accepted, Refused}
 use Rattle.checks.specs.Checks.{Check, check, firstBroken, below}
-use Rattle.checks.proofs.OfChecks.{andThen, joined, hit, miss, first-clean, rest-clean, right-clean, below-each}
+use Rattle.checks.proofs.OfChecks.{andThen, joined, first-clean, rest-clean, right-clean, below-each}
 use Rattle.grants.specs.declared.Limits.{Limits}
 use Rattle.grants.specs.Grants.{Name, granted, allGranted}
 use Rattle.grants.proofs.OfGrants.{each-granted}
-use Rattle.instructions.specs.Instruction.{classOf, badNumber, badField, hasRelative, literals, named}
-use Rattle.groups.specs.declared.counts.Count.{Count}
-use Rattle.groups.specs.declared.counts.Count.the-variants.{Nothing, One, Several}
+use Rattle.instructions.specs.Instruction.{classOf, badNumber, badField, literals, named}
+use Rattle.groups.specs.declared.counts.Count.the-variants.{One, Several}
 use Rattle.groups.specs.declared.First.{First}
 use Rattle.groups.specs.declared.First.the-variants.{Nowhere, At}
 use Rattle.groups.specs.declared.Seen.{Seen}

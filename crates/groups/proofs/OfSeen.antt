@@ -9,7 +9,6 @@ use Rattle.groups.specs.declared.First.{First}
 use Rattle.groups.specs.declared.First.the-variants.{Nowhere, At}
 use Rattle.bits.specs.Fields.{fieldOf}
 use Rattle.checks.specs.declared.Rule.the-variants.{AluNumber, AluField, UnitTaken, IssueLimit, NotGranted}
-use Rattle.groups.specs.declared.GroupFault.{GroupFault}
 use Rattle.groups.specs.declared.GroupFault.the-variants.{Clean, Broken}
 use Rattle.opcodes.specs.declared.alu.Class.{Class}
 use Rattle.opcodes.specs.Alu as alu

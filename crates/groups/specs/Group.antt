@@ -3,7 +3,7 @@
 use Prim.Native.Nat.{ℕ, zero, suc, _+_, max}
 use mathlib.Core.Bool.{Bool, true, false, cond, not, _&&_, _||_}
 use mathlib.Core.List.{List, [], _∷_, _++_}
-use lib.Dec.{eqb, ltb, leb}
+use lib.Dec.{eqb, ltb}
 use Rattle.units.specs.declared.Quadwords.{Quadwords}
 use Rattle.units.specs.Units.{slots}
 use Rattle.bits.specs.Fields.{fieldOf, withField}

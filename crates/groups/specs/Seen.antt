@@ -2,7 +2,7 @@
 -- group's rules (specs/Group.antt).
 use Prim.Native.Nat.{ℕ, zero, suc, max}
 use mathlib.Core.Bool.{Bool, true, false, cond, not, _&&_, _||_}
-use lib.Dec.{eqb, ltb}
+use lib.Dec.{ltb}
 use Rattle.bits.specs.Fields.{fieldOf}
 use Rattle.checks.specs.declared.Rule.{Rule}
 use Rattle.checks.specs.declared.Rule.the-variants.{AluNumber, AluField, UnitTaken, IssueLimit, NotGranted}
@@ -18,7 +18,7 @@ use Rattle.groups.specs.declared.Issues.{Issues}
 use Rattle.groups.specs.declared.Seen.{Seen}
 use Rattle.groups.specs.declared.GroupFault.{GroupFault}
 use Rattle.groups.specs.declared.GroupFault.the-variants.{Clean, Broken}
-use Rattle.groups.specs.Group.{Words, take, unitOf, takenBefore, unitAt, badUnit, badUnitAt, isSetter, isKill, isMova, isReduction, setters, settersAndKills, anyKill, anyMova, anyRelative, anyReduction, isUneven, anyUneven, literalsBelow}
+use Rattle.groups.specs.Group.{Words, take, unitOf, takenBefore, badUnit, badUnitAt, isSetter, isKill, isMova, isReduction, setters, settersAndKills, anyKill, anyMova, anyRelative, anyReduction, isUneven, anyUneven, literalsBelow}
 
 -- ---- counts: none, one or several
 

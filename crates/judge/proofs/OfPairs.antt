@@ -1,7 +1,7 @@
 -- Rules 4 to 15 at one pair, from what the tests answered. Assumes nothing.
-use mathlib.Core.Path.{_≡_, refl, sym, ap, _∙_}
+use mathlib.Core.Path.{_≡_, sym, ap, _∙_}
 use mathlib.Core.Bool.{Bool, true, false}
-use mathlib.Core.List.{List, []}
+use mathlib.Core.List.{List}
 use Prim.Native.Nat.{ℕ}
 use Rattle.units.specs.declared.Quadwords.{Quadwords}
 use Rattle.units.specs.declared.Slots.{Slots}

@@ -1,7 +1,6 @@
 -- The first pass: a place from its parts, and one place more. Assumes nothing.
 use mathlib.Core.Path.{_≡_, refl, sym, ap, _∙_, subst}
-use mathlib.Core.Bool.{Bool, true, false}
-use mathlib.Core.List.{List, [], _∷_, _++_}
+use mathlib.Core.List.{List}
 use Prim.Native.Nat.{ℕ, suc, _+_, _≤_, _<_}
 use native.Mathlib.Omega.{arith}
 use native.Mathlib.Numerals.{add-one}
@@ -28,7 +27,7 @@ use Rattle.flow.proofs.OfFollow.{held-start, recorded-none, recorded-more}
 use Rattle.judge.specs.declared.stack.Ahead.{Ahead}
 use Rattle.judge.specs.declared.stack.Ahead.the-variants.{Broken, Next}
 use Rattle.judge.specs.Judge.{pairChecks, firstChecks}
-use Rattle.judge.specs.Passing.{Section, Within, Ready, StackFound, Found}
+use Rattle.judge.specs.Passing.{Ready, StackFound, Found}
 
 -- ---- one place
 

@@ -1,6 +1,6 @@
 -- Demand 3: the walk of an accepted pack, along any list of answers, is safe. The flow of control is `flow`'s part; here is what lies at
 -- each place of the section. Assumes nothing.
-use mathlib.Core.Path.{_≡_, refl, sym, ap, _∙_, subst}
+use mathlib.Core.Path.{_≡_, refl, sym}
 use mathlib.Core.Bool.{Bool, true, false, not, _||_, false≢true}
 use mathlib.Core.List.{List, [], _∷_, _++_, List·Memᴰ, List·Memᴰ·head, List·Memᴰ·tail, List·Memᴰ·not-nil, List·Memᴰ·cases-cons}
 use mathlib.Core.Logic.{_⊎_, inl, inr, ⊎-elim}
@@ -12,7 +12,6 @@ use lib.Dec.{ltb, leb}
 use borrow.Author.Tests.{ltb-true, leb-true, le-leb, not-false}
 use Rattle.units.specs.declared.Quadwords.{Quadwords}
 use Rattle.units.specs.Units.{quadwords, slots, slotsLength, fetchesLength, rangeEnd, isBelow, isAtMost}
-use Rattle.checks.specs.declared.Rule.the-variants.{PackLength, NoEnd}
 use Rattle.checks.specs.declared.Verdict.the-variants.{Accepted}
 use Rattle.checks.specs.Checks.{check, firstBroken, below}
 use Rattle.checks.proofs.OfChecks.{first-clean, rest-clean, left-clean, right-clean, below-each}
@@ -23,16 +22,15 @@ use Rattle.fetches.specs.Fetches as fetches
 use Rattle.fetches.proofs.OfClause as of-fetches
 use Rattle.clauses.specs.Clause as alu
 use Rattle.clauses.proofs.OfNames as of-alu
-use Rattle.control.specs.declared.Control.{Control}
 use Rattle.control.specs.declared.Clause.{Clause}
 use Rattle.control.specs.declared.Clause.the-variants.{NoClause, AluClause, FetchClause}
 use Rattle.control.specs.Control.{lowAt, highAt, controlAt, endOf}
-use Rattle.control.specs.Rules.{badLength, noEnd, clauseOf, outside, badRange, badExport, exportNames}
+use Rattle.control.specs.Rules.{outside, badRange, badExport, exportNames}
 use Rattle.control.proofs.OfRules.{length-right, each-export-granted}
 use Rattle.flow.specs.Pairs.{flowAt}
 use Rattle.flow.specs.Rules.{stackChecks, secondChecks}
 use Rattle.flow.specs.Walk.{State, start, walk, Sound}
-use Rattle.flow.proofs.OfWalk.{Clean, clean-passes, walk-sound}
+use Rattle.flow.proofs.OfWalk.{clean-passes, walk-sound}
 use Rattle.judge.specs.Judge.{lineChecks, limitsOf, isPushBefore, fetchKind, clauseChecks, pairChecks, firstChecks, passes, checks, judgement}
 use Rattle.judge.specs.Safe.{clauseAt, LiesBehind, namesBelow, namesOfEach, clauseNames, namesAt, Safe, Safely}
 

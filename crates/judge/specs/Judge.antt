@@ -9,7 +9,7 @@ use Rattle.bits.specs.Fields.{fieldOf}
 use Rattle.checks.specs.declared.Rule.the-variants.{CardLine, PackLength, NoEnd, CfNumber, CfField, ClauseRange, ExportField}
 use Rattle.checks.specs.declared.Place.the-variants.{Whole, Line, Quadword}
 use Rattle.checks.specs.declared.Verdict.{Verdict}
-use Rattle.checks.specs.declared.Verdict.the-variants.{Accepted, Refused}
+use Rattle.checks.specs.declared.Verdict.the-variants.{Refused}
 use Rattle.checks.specs.Checks.{Check, check, firstBroken, below}
 use Rattle.card.specs.declared.Card.{Card}
 use Rattle.card.specs.declared.CardRead.{CardRead}

@@ -1,5 +1,4 @@
 -- `clauses::read_group` meets its contract. The loop's invariant: so many instructions are read, none of them the last. Assumes nothing.
-use borrow.Author.Needs.{needs}
 use Prim.Native.Nat.{_-_}
 use mathlib.Core.Path.{refl}
 use native.Mathlib.Omega.{arith}

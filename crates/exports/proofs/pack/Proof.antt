@@ -1,7 +1,6 @@
 -- `exports::pack` meets its contract, part by part. Assumes nothing.
 use borrow.Author.Needs.{needs}
 use Prim.Native.Nat.{_+_, _*_, _%_, _^_}
-use native.Mathlib.Omega.{arith}
 use Rattle.exports.specs.Packed.{packed}
 use Rattle.exports.proofs.pack.Statement.{statement}
 use Rattle.exports.proofs.pack.Tie as tie

@@ -1,5 +1,5 @@
 -- `groups::read_instruction` meets its contract, field by field. Assumes nothing.
-use Rattle.groups.proofs.OfSeen.{Asked, next-seen}
+use Rattle.groups.proofs.OfSeen.{next-seen}
 use Rattle.groups.proofs.read_instruction.Statement.{statement}
 use Rattle.groups.proofs.read_instruction.Tie as tie
 

@@ -4,7 +4,7 @@ use mathlib.Core.Path.{refl}
 use native.Mathlib.Omega.{arith}
 use denote.Ref.{now}
 use Rattle.control.specs.Control.{lowAt, highAt}
-use Rattle.judge.proofs.OfPass.{pair-is, flow-is, found-pair, found-stack}
+use Rattle.judge.proofs.OfPass.{flow-is, found-pair, found-stack}
 use Rattle.judge.proofs.first_at.Statement.{statement}
 use Rattle.judge.proofs.first_at.Tie as tie
 
