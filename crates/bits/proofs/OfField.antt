@@ -1,10 +1,11 @@
 -- One field of a word replaced: the field reads as what was put there, every other field keeps its value. Assumes nothing.
-use mathlib.Core.Path.{_≡_, sym, ap, _∙_, subst}
+use mathlib.Core.Path.{_≡_, sym, ap, ap₂, _∙_, subst}
 use mathlib.Core.Logic.{_⊎_, ⊎-elim}
-use Prim.Native.Nat.{ℕ, _+_, _-_, _*_, _/_, _%_, _^_, _≤_, _<_}
-use native.Mathlib.Nat.{add-mul, mul-assoc, mul-comm, add-assoc, add-comm, mod-lt, mod-mod, mod-eq-of-lt, sub-add-cancel}
+use Prim.Native.Nat.{ℕ, _+_, _-_, _*_, _/_, _%_, _^_, _≤_, _<_, max}
+use native.Mathlib.Nat.{add-zero, zero-add, zero-mul, div-eq-of-lt, lt-of-lt-of-le, add-mul, mul-assoc, mul-comm, add-assoc, add-comm, mod-lt, mod-mod, mod-eq-of-lt, sub-add-cancel}
 use native.Mathlib.Omega.{arith}
-use lib.Pow.{pow-pos, pow-add, shr-lt, shr-shr, split, high, low, field, mod-pow-add, mod-mod-pow}
+use lib.Bits.{bitOr, or-step, or-zero-r, or-block}
+use lib.Pow.{pow-pos, pow-add, pow-mono, shl-exact, shr-lt, shr-shr, split, high, low, field, mod-pow-add, mod-mod-pow}
 use lib.Arith.{digits-lt}
 use Rattle.bits.specs.Fields.{fieldOf, withField}
 
@@ -88,3 +89,39 @@ module _ (n o w : ℕ) (h : n < 2 ^ 32) (l : o + w ≤ 32) where
       ∙ ap (λ (x : ℕ). n / 2 ^ (o + w) * 2 ^ (o + w) + (x * 2 ^ o + n % 2 ^ o)) (mod-mod (n / 2 ^ o) (2 ^ w))
       ∙ ap (λ (x : ℕ). n / 2 ^ (o + w) * 2 ^ (o + w) + x) (sym (mod-pow-add n w o) ∙ ap (λ (k : ℕ). n % 2 ^ k) (add-comm w o))
       ∙ split n (o + w)
+
+-- ---- a field that is not wholly in the word
+
+-- a field that ends behind bit 31 leaves nothing above it
+pub no-top : (n o w v : ℕ) → n < 2 ^ 32 → 32 ≤ o + w → withField n o w v ≡ (v % 2 ^ w * 2 ^ o + n % 2 ^ o) % 2 ^ 32
+no-top n o w v h l =
+    ap (λ (q : ℕ). (q * 2 ^ (o + w) + (v % 2 ^ w * 2 ^ o + n % 2 ^ o)) % 2 ^ 32) (div-eq-of-lt (lt-of-lt-of-le h (pow-mono l)))
+    ∙ ap (λ (q : ℕ). (q + (v % 2 ^ w * 2 ^ o + n % 2 ^ o)) % 2 ^ 32) (zero-mul (2 ^ (o + w)))
+    ∙ ap (λ (q : ℕ). q % 2 ^ 32) (zero-add (v % 2 ^ w * 2 ^ o + n % 2 ^ o))
+
+-- a field that starts behind bit 31 changes nothing
+pub behind : (n o w v : ℕ) → n < 2 ^ 32 → 32 ≤ o → n ≡ withField n o w v
+behind n o w v h l =
+    let x = v % 2 ^ w in
+    let up : x * 2 ^ o ≡ x * 2 ^ (o - 32) * 2 ^ 32 =
+    ap (λ (k : ℕ). x * 2 ^ k) (sym (sub-add-cancel l)) ∙ ap (λ (y : ℕ). x * y) (pow-add 2 (o - 32) 32) ∙ sym (mul-assoc x (2 ^ (o - 32)) (2 ^ 32)) in
+    sym
+    (no-top n o w v h (omega arith)
+    ∙ ap₂ (λ (a b : ℕ). (a + b) % 2 ^ 32) up (mod-eq-of-lt (lt-of-lt-of-le h (pow-mono l)))
+    ∙ low (x * 2 ^ (o - 32)) 32 h)
+
+-- ---- one bit
+
+-- joined by `|` with one bit, a word has that bit set
+pub bit-set : (n o : ℕ) → n < 2 ^ 32 → o < 32 → bitOr n (1 * 2 ^ o % 2 ^ 32) ≡ withField n o 1 1
+bit-set n o h l =
+    let q = n / 2 ^ o in
+    let r = n % 2 ^ o in
+    let odd : bitOr q 1 ≡ q / 2 * 2 + 1 =
+    or-step q 1 ∙ ap (λ (x : ℕ). x * 2 + max (q % 2) (1 % 2)) (or-zero-r (q / 2)) ∙ (omega arith) in
+    let above : q / 2 ≡ n / 2 ^ (o + 1) = shr-shr n o 1 in
+    ap₂ bitOr (sym (split n o)) (shl-exact 1 o 32 (omega arith) (omega arith) ∙ sym (add-zero (1 * 2 ^ o)))
+    ∙ or-block o q 1 r 0 (mod-lt n (pow-pos o)) (pow-pos o)
+    ∙ ap₂ (λ (x y : ℕ). x * 2 ^ o + y) (odd ∙ ap (λ (x : ℕ). x * 2 + 1) above) (or-zero-r r)
+    ∙ sym (spliced-at n o 1 1)
+    ∙ sym (in-word n o 1 h (omega arith) 1)

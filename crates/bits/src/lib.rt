@@ -43,3 +43,13 @@ pub fn with_field(word: u32, offset: u32, width: u32, value: u32) -> u32
     let end = offset + width;
     place(field(word, end, 32), end, 32) | own | below
 }
+
+// A word with one bit set; all others stay.
+pub fn with_bit(word: u32, offset: u32) -> u32
+    ensures { λ r. ⌜ r ≡ withField word offset 1 1 ⌝ }
+{
+    if offset >= 32 {
+        return word;
+    }
+    word | (1 << offset)
+}

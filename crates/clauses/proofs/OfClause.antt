@@ -1,11 +1,11 @@
 -- A clause, group by group: the groups passed break nothing, so the verdict is that of the groups left. Assumes nothing.
 use Prim.Native.Nat.{ℕ, zero, suc, _+_, _-_, _*_, _/_, _≤_, _<_, _^_}
-use mathlib.Core.Path.{_≡_, refl, sym, ap, _∙_, subst}
-use mathlib.Core.Bool.{Bool, true, false, cond, not, _&&_, or-true}
+use mathlib.Core.Path.{_≡_, refl, sym, ap, _∙_}
+use mathlib.Core.Bool.{Bool, true, false, cond, not, _&&_}
 use mathlib.Core.List.{List, [], _∷_, _++_}
 use lib.ListN.{length}
-use lib.Dec.{ltb, leb, eqb}
-use borrow.Author.Tests.{lt-ltb, le-ltb, eq-eqb, ne-eqb, le-leb, lt-leb, leb-true, leb-false, not-false}
+use lib.Dec.{leb}
+use borrow.Author.Tests.{lt-ltb, le-ltb, le-leb, lt-leb, leb-true, leb-false, not-false}
 use native.Mathlib.Omega.{arith}
 use Rattle.units.specs.declared.Quadwords.{Quadwords}
 use Rattle.units.specs.declared.Slots.{Slots}
@@ -17,7 +17,7 @@ use Rattle.checks.specs.declared.Rule.the-variants.{GroupShape, IssueLimit}
 use Rattle.checks.specs.declared.Place.the-variants.{Quadword}
 use Rattle.checks.specs.declared.Verdict.{Verdict}
 use Rattle.checks.specs.declared.Verdict.the-variants.{Accepted, Refused}
-use Rattle.checks.specs.Checks.{Check, check, firstBroken}
+use Rattle.checks.specs.Checks.{check, firstBroken}
 use Rattle.checks.proofs.OfChecks.{hit, miss, andThen, joined, joined-clean, joined-refused}
 use Rattle.card.specs.declared.Kind.{Kind}
 use Rattle.grants.specs.declared.Limits.{Limits}
@@ -26,12 +26,11 @@ use Rattle.groups.specs.declared.counts.Count.the-variants.{Nothing}
 use Rattle.groups.specs.declared.GroupFault.{GroupFault}
 use Rattle.groups.specs.declared.GroupFault.the-variants.{Clean, Broken}
 use Rattle.groups.specs.Group.{setters, ruleChecks}
-use Rattle.groups.specs.Seen.{countOf, together, isOne, issuesOf, seenOf, faultOf}
-use Rattle.groups.proofs.OfGroup.{counted-together, counts-one, answer, group-answer, FaultIn, fault-in}
-use Rattle.clauses.specs.declared.Group.{Group}
+use Rattle.groups.specs.Seen.{countOf, together, isOne, seenOf, faultOf}
+use Rattle.groups.proofs.OfGroup.{counted-together, counts-one, answer, group-answer}
 use Rattle.clauses.specs.Clause.{lowOf, highOf, sizeOf, spanOf, badShape, wordOf, groupsFrom, groupsOf, isPixel, mayKill, groupChecks, checksOf, settersIn, badPush, insideBuffer, clauseChecks}
-use Rattle.clauses.specs.Read.{groupOf, pushVerdict}
-use Rattle.clauses.proofs.OfRead.{size-few}
+use Rattle.clauses.specs.Read.{pushVerdict}
+use Rattle.clauses.proofs.OfRead.{shaped}
 
 -- ---- in the buffer
 
@@ -73,33 +72,6 @@ push-check :
     → pushVerdict push (countOf n) place ≡ firstBroken (check IssueLimit (Quadword place) (slots 0) (badPush push n) ∷ [])
 unfolding pushVerdict badPush firstBroken
 push-check push n place = rw (counts-one n)
-
--- ---- what the code reads off a group that it has read
-
-module _ (limits : Limits) (w : List ℕ) (first n g : ℕ) (group : Group)
-    (e : group ≡ groupOf limits w (wordOf first g) (n - g)) where
-  pub size-is : group .size ≡ sizeOf w (wordOf first g) (n - g)
-  unfolding groupOf
-  size-is = ap (λ (x : Group). x .size) e
-
-  pub span-is : group .size + group .seen .literals ≡ spanOf w (wordOf first g) (n - g)
-  unfolding groupOf spanOf seenOf
-  span-is = ap (λ (x : Group). x .size + x .seen .literals) e
-
-  -- its literals are few: its size and theirs are a small number
-  pub size-small : (group .size ≤ 5) × (group .size ≤ n - g)
-  size-small = let f = size-few w (wordOf first g) (n - g) in (omega (arith, size-is, f .0), omega (arith, size-is, f .1))
-
-  -- where a fault shows
-  pub behind-few :
-      (mayKill : Bool) {fault : GroupFault} {r : Rule} {behind : ℕ} → fault ≡ faultOf (group .seen) (group .size) mayKill
-      → fault ≡ Broken r behind → behind ≤ group .size
-  unfolding groupOf
-  behind-few mayKill {r = r} {behind = behind} f q =
-      let b : faultOf (seenOf limits (lowOf w (wordOf first g)) (highOf w (wordOf first g)) (sizeOf w (wordOf first g) (n - g))) (sizeOf w (wordOf first g) (n - g)) mayKill ≡ Broken r behind =
-      (λ i. faultOf (sym e i .seen) (sym e i .size) mayKill) ∙ sym f ∙ q in
-      subst (λ (m : ℕ). behind ≤ m) (sym size-is)
-      (subst (FaultIn (sizeOf w (wordOf first g) (n - g))) b (fault-in limits mayKill (lowOf w (wordOf first g)) (highOf w (wordOf first g)) (sizeOf w (wordOf first g) (n - g))))
 
 -- ---- the groups
 
@@ -144,109 +116,75 @@ module _ (pixel : Bool) (limits : Limits) (w : List ℕ) (place : Quadwords) (fi
   from-here g zero l m = absurd (omega arith)
   from-here g (suc k) l m = let e : suc k - 1 ≡ k = omega arith in rw (lt-ltb g n l, e) refl
 
-  module _ (g : ℕ) (group : Group) (e : group ≡ groupOf limits w (wordOf first g) (n - g)) where
-    sized : group .size ≡ size g
-    sized = size-is limits w first n g group e
+  module _ {count : Count} {g : ℕ} (a : Along count g) (l : g < n) where
+    here :
+        verdict (groupsOf w first n) ≡ verdict
+        (g ∷ cond (badShape w (wordOf first g) (n - g)) [] (groupsFrom w first n (a .fuel - 1) (g + span g)))
+    here = a .rest ∙ ap verdict (from-here g (a .fuel) l (a .enough))
 
-    spans : group .size + group .seen .literals ≡ span g
-    spans = span-is limits w first n g group e
+    pub along-bad :
+        badShape w (wordOf first g) (n - g) ≡ true
+        → verdict (groupsOf w first n) ≡ Refused GroupShape (Quadword place) (slots g)
+    unfolding checksOf groupChecks
+    along-bad h = here ∙ hit (check GroupShape (Quadword place) (slots g) (badShape w (wordOf first g) (n - g))) _ h
 
-    no-size : group .size ≡ 0 → badShape w (wordOf first g) (n - g) ≡ true
-    unfolding badShape
-    no-size h = rw (eq-eqb (size g) 0 (sym sized ∙ h))
-
-    too-long : n - g < group .size + group .seen .literals → badShape w (wordOf first g) (n - g) ≡ true
-    unfolding badShape
-    too-long h = rw (lt-ltb (n - g) (span g) (omega (arith, spans))) (or-true (eqb (size g) 0))
-
-    good-shape : (group .size ≡ 0 → ⊥) → group .size + group .seen .literals ≤ n - g → badShape w (wordOf first g) (n - g) ≡ false
-    unfolding badShape
-    good-shape h m = rw (ne-eqb (size g) 0 (λ z. h (sized ∙ z)), le-ltb (n - g) (span g) (omega (arith, spans)))
-
-    module _ {count : Count} (a : Along count g) (l : g < n) where
-      here :
-          verdict (groupsOf w first n) ≡ verdict
-          (g ∷ cond (badShape w (wordOf first g) (n - g)) [] (groupsFrom w first n (a .fuel - 1) (g + span g)))
-      here = a .rest ∙ ap verdict (from-here g (a .fuel) l (a .enough))
-
-      refuses-shape :
-          badShape w (wordOf first g) (n - g) ≡ true
-          → verdict (groupsOf w first n) ≡ Refused GroupShape (Quadword place) (slots g)
+    module _ (h : badShape w (wordOf first g) (n - g) ≡ false) {fault : GroupFault}
+        (f : fault ≡ faultOf (seenOf limits (lowOf w (wordOf first g)) (highOf w (wordOf first g)) (size g)) (size g) (mayKill pixel n (g + span g))) where
+      -- past the shape: the group's rules, then the groups behind it
+      past :
+          verdict (groupsOf w first n) ≡ andThen (answer place g fault)
+          (verdict (groupsFrom w first n (a .fuel - 1) (g + span g)))
       unfolding checksOf groupChecks
-      refuses-shape h = here ∙ hit (check GroupShape (Quadword place) (slots g) (badShape w (wordOf first g) (n - g))) _ h
+      past =
+          here
+          ∙ miss (check GroupShape (Quadword place) (slots g) (badShape w (wordOf first g) (n - g))) _ h
+          ∙ ap
+          (λ (b : Bool). firstBroken (ruleChecks place g limits (mayKill pixel n (g + span g)) (lowOf w (wordOf first g)) (highOf w (wordOf first g)) (size g) ++ checksOf pixel limits w place first n (cond b [] (groupsFrom w first n (a .fuel - 1) (g + span g)))))
+          h
+          ∙ joined
+          (ruleChecks place g limits (mayKill pixel n (g + span g)) (lowOf w (wordOf first g)) (highOf w (wordOf first g)) (size g))
+          (checksOf pixel limits w place first n (groupsFrom w first n (a .fuel - 1) (g + span g)))
+          ∙ ap (λ (v : Verdict). andThen v (verdict (groupsFrom w first n (a .fuel - 1) (g + span g))))
+          (group-answer place g limits (mayKill pixel n (g + span g)) (lowOf w (wordOf first g)) (highOf w (wordOf first g)) (size g) ∙ ap (answer place g) (sym f))
 
-      pub along-no-size : group .size ≡ 0 → verdict (groupsOf w first n) ≡ Refused GroupShape (Quadword place) (slots g)
-      along-no-size h = refuses-shape (no-size h)
+      pub along-fault :
+          {r : Rule} {behind : ℕ} → fault ≡ Broken r behind
+          → verdict (groupsOf w first n) ≡ Refused r (Quadword place) (slots (g + behind))
+      along-fault q =
+          past
+          ∙ ap (λ (x : GroupFault). andThen (answer place g x) (verdict (groupsFrom w first n (a .fuel - 1) (g + span g)))) q
 
-      pub along-too-long :
-          n - g < group .size + group .seen .literals
-          → verdict (groupsOf w first n) ≡ Refused GroupShape (Quadword place) (slots g)
-      along-too-long h = refuses-shape (too-long h)
+      setters-here :
+          settersIn w first n (groupsFrom w first n (a .fuel) g) ≡ setters (highOf w (wordOf first g)) (size g) + settersIn w
+          first n (groupsFrom w first n (a .fuel - 1) (g + span g))
+      unfolding settersIn
+      setters-here =
+          ap (settersIn w first n) (from-here g (a .fuel) l (a .enough))
+          ∙ ap
+          (λ (b : Bool). setters (highOf w (wordOf first g)) (size g) + settersIn w first n (cond b [] (groupsFrom w first n (a .fuel - 1) (g + span g))))
+          h
 
-      module _ (h : group .size ≡ 0 → ⊥) (m : group .size + group .seen .literals ≤ n - g) {fault : GroupFault}
-          (f : fault ≡ faultOf (group .seen) (group .size) (pixel && eqb (g + (group .size + group .seen .literals)) n)) where
-        fault-is :
-            fault ≡ faultOf (seenOf limits (lowOf w (wordOf first g)) (highOf w (wordOf first g)) (size g)) (size g)
-            (mayKill pixel n (g + span g))
-        unfolding groupOf
-        fault-is = f ∙ (λ i. faultOf (e i .seen) (e i .size) (pixel && eqb (g + spans i) n))
-
-        -- past the shape: the group's rules, then the groups behind it
-        past :
-            verdict (groupsOf w first n) ≡ andThen (answer place g fault)
-            (verdict (groupsFrom w first n (a .fuel - 1) (g + span g)))
-        unfolding checksOf groupChecks
-        past =
-            here
-            ∙ miss (check GroupShape (Quadword place) (slots g) (badShape w (wordOf first g) (n - g))) _ (good-shape h m)
-            ∙ ap
-            (λ (b : Bool). firstBroken (ruleChecks place g limits (mayKill pixel n (g + span g)) (lowOf w (wordOf first g)) (highOf w (wordOf first g)) (size g) ++ checksOf pixel limits w place first n (cond b [] (groupsFrom w first n (a .fuel - 1) (g + span g)))))
-            (good-shape h m)
-            ∙ joined
-            (ruleChecks place g limits (mayKill pixel n (g + span g)) (lowOf w (wordOf first g)) (highOf w (wordOf first g)) (size g))
-            (checksOf pixel limits w place first n (groupsFrom w first n (a .fuel - 1) (g + span g)))
-            ∙ ap (λ (v : Verdict). andThen v (verdict (groupsFrom w first n (a .fuel - 1) (g + span g))))
-            (group-answer place g limits (mayKill pixel n (g + span g)) (lowOf w (wordOf first g)) (highOf w (wordOf first g)) (size g) ∙ ap (answer place g) (sym fault-is))
-
-        pub along-fault :
-            {r : Rule} {behind : ℕ} → fault ≡ Broken r behind
-            → verdict (groupsOf w first n) ≡ Refused r (Quadword place) (slots (g + behind))
-        along-fault q =
-            past
-            ∙ ap (λ (x : GroupFault). andThen (answer place g x) (verdict (groupsFrom w first n (a .fuel - 1) (g + span g)))) q
-
-        setters-here :
-            settersIn w first n (groupsFrom w first n (a .fuel) g) ≡ setters (highOf w (wordOf first g)) (size g) + settersIn w
-            first n (groupsFrom w first n (a .fuel - 1) (g + span g))
-        unfolding settersIn
-        setters-here =
-            ap (settersIn w first n) (from-here g (a .fuel) l (a .enough))
-            ∙ ap
-            (λ (b : Bool). setters (highOf w (wordOf first g)) (size g) + settersIn w first n (cond b [] (groupsFrom w first n (a .fuel - 1) (g + span g))))
-            (good-shape h m)
-
-        pub along-next :
-            {own more : Count} → fault ≡ Clean → own ≡ group .seen .issues .setters → more ≡ together count own
-            → Along more (g + (group .size + group .seen .literals))
-        unfolding groupOf seenOf issuesOf
-        along-next q o t =
-            subst (Along _) (ap (λ (x : ℕ). g + x) (sym spans))
-            (record {
-              within = omega (arith, spans);
-              fuel = a .fuel - 1;
-              enough = omega (arith, spans, a .enough, size-small limits w first n g group e .0);
-              passed = a .passed + setters (highOf w (wordOf first g)) (size g);
-              count-is =
-                  t
-                  ∙ (λ i. together (a .count-is i) ((o ∙ (λ j. e j .seen .issues .setters)) i))
-                  ∙ counted-together (a .passed) (setters (highOf w (wordOf first g)) (size g));
-              total = omega (arith, a .total, setters-here);
-              rest =
-                  past
-                  ∙ ap
-                  (λ (x : GroupFault). andThen (answer place g x) (verdict (groupsFrom w first n (a .fuel - 1) (g + span g))))
-                  q;
-            })
+      pub along-next :
+          {own more : Count} → fault ≡ Clean → own ≡ countOf (setters (highOf w (wordOf first g)) (size g))
+          → more ≡ together count own → Along more (g + span g)
+      along-next q o t =
+          let room = shaped w (wordOf first g) (n - g) h in
+          record {
+            within = omega (arith, room .1);
+            fuel = a .fuel - 1;
+            enough = omega (arith, a .enough, room .0);
+            passed = a .passed + setters (highOf w (wordOf first g)) (size g);
+            count-is =
+                t
+                ∙ (λ i. together (a .count-is i) (o i))
+                ∙ counted-together (a .passed) (setters (highOf w (wordOf first g)) (size g));
+            total = omega (arith, a .total, setters-here);
+            rest =
+                past
+                ∙ ap
+                (λ (x : GroupFault). andThen (answer place g x) (verdict (groupsFrom w first n (a .fuel - 1) (g + span g))))
+                q;
+          }
 
   none-left : (k g : ℕ) → n ≤ g → groupsFrom w first n k g ≡ []
   unfolding groupsFrom

@@ -1,11 +1,11 @@
 -- One group, read instruction by instruction: its size, and where it lies. Assumes nothing.
 use Prim.Native.Nat.{ℕ, zero, suc, _+_, _-_, _*_, _≤_, _<_}
 use mathlib.Core.Path.{_≡_, refl, sym, ap, _∙_}
-use mathlib.Core.Bool.{Bool, true, false, cond}
+use mathlib.Core.Bool.{Bool, true, false, cond, _||_, or-true}
 use mathlib.Core.List.{List}
 use lib.ListN.{getD}
 use lib.Dec.{ltb, eqb}
-use borrow.Author.Tests.{lt-ltb, le-ltb, eq-eqb, ne-eqb, ltb-true}
+use borrow.Author.Tests.{lt-ltb, le-ltb, eq-eqb, ne-eqb, ltb-true, ltb-false}
 use native.Mathlib.Omega.{arith}
 use native.Mathlib.Numerals.{add-one}
 use Rattle.bits.specs.Fields.{fieldOf}
@@ -14,7 +14,7 @@ use Rattle.groups.specs.declared.Seen.{Seen}
 use Rattle.groups.specs.Seen.{noneSeen, nextSeen, seenOf}
 use Rattle.groups.proofs.OfGroup.{seen-none, seen-next}
 use Rattle.clauses.specs.declared.Group.{Group}
-use Rattle.clauses.specs.Clause.{lowOf, highOf, isLast, sizeFrom, sizeOf}
+use Rattle.clauses.specs.Clause.{lowOf, highOf, isLast, sizeFrom, sizeOf, spanOf, badShape}
 use Rattle.clauses.specs.Read.{groupOf, noGroup}
 
 -- the high word of the group's first instruction
@@ -65,6 +65,33 @@ module _ (w : List ℕ) (at left : ℕ) where
   pub size-few : (sizeOf w at left ≤ 5) × (sizeOf w at left ≤ left)
   unfolding sizeOf
   size-few = let r = size-in 5 0 in (omega (arith, r .0), r .1)
+
+  -- ---- its shape
+
+  pub bad-size : sizeOf w at left ≡ 0 → badShape w at left ≡ true
+  unfolding badShape
+  bad-size h = rw (eq-eqb (sizeOf w at left) 0 h)
+
+  pub bad-span : left < spanOf w at left → badShape w at left ≡ true
+  unfolding badShape
+  bad-span h = rw (lt-ltb left (spanOf w at left) h) (or-true (eqb (sizeOf w at left) 0))
+
+  pub good : (sizeOf w at left ≡ 0 → ⊥) → spanOf w at left ≤ left → badShape w at left ≡ false
+  unfolding badShape
+  good h m = rw (ne-eqb (sizeOf w at left) 0 h, le-ltb left (spanOf w at left) m)
+
+  -- a group of good shape takes at least one slot, and none behind those left
+  pub shaped : badShape w at left ≡ false → (0 < spanOf w at left) × (spanOf w at left ≤ left)
+  unfolding badShape spanOf
+  shaped = by (sizeOf w at left) refl (ltb left (spanOf w at left)) refl
+    where
+      by :
+          (m : ℕ) → sizeOf w at left ≡ m → (b : Bool) → ltb left (spanOf w at left) ≡ b → (eqb m 0 || b) ≡ false
+          → (0 < spanOf w at left) × (spanOf w at left ≤ left)
+      by zero e b f h = let z : _≡_ {A = ℕ} 1 0 = cc in absurd (omega arith)
+      by (suc m) e true f h =
+          let y : true ≡ false = sym (or-true (eqb (suc m) 0)) ∙ h in let z : _≡_ {A = ℕ} 1 0 = cc in absurd (omega arith)
+      by (suc m) e false f h = (omega (arith, e), ltb-false left (spanOf w at left) f)
 
   -- ---- the loop over the group's instructions
 

@@ -16,8 +16,17 @@ ghost use Rattle.checks.specs.Checks.{firstBroken};
 ghost use Rattle.checks.specs.declared.Place.the-variants.{Quadword};
 ghost use Rattle.checks.specs.declared.Verdict.the-variants.{Refused};
 ghost use Rattle.units.specs.Units as counted;
+ghost use Rattle.screens.specs.Gaps.{startsOf, widthsOf};
 ghost use Rattle.clauses.specs.Clause.{isPixel, insideBuffer, clauseChecks};
-ghost use Rattle.clauses.specs.Read.{groupOf, noGroup, pushVerdict, Readable};
+ghost use Rattle.clauses.specs.Read.{stepOf, groupOf, noGroup, pushVerdict, Readable};
+
+mod screen;
+
+// What a group comes to: the slots that it takes and the setters in it; or what it breaks, and how many slots behind its first.
+pub enum Step {
+    Passed(usize, Count),
+    Broken(Rule, usize),
+}
 
 // A group as it was read: how many instructions it has, 0 where none of five or of those left in the clause has LAST set.
 pub struct Group {
@@ -44,29 +53,73 @@ pub fn alu_clause(
     }
     let first = units::low_word(start).0;
     let pixel = is_pixel(kind);
+    let starts = screens::gap_starts(limits);
+    let widths = screens::gap_widths(limits);
     let mut setters = Count::Nothing;
     let mut g = 0;
     while g < n {
-        let group = read_group(words, first + 2 * g, n - g, limits);
-        let size = group.size;
-        let span = size + group.seen.literals as usize;
-        if size == 0 {
-            return refused(Rule::GroupShape, place, g);
+        let step = next_group(words, first + 2 * g, n - g, limits, &starts, &widths, pixel);
+        match step {
+            Step::Broken(rule, behind) => {
+                return refused(rule, place, g + behind);
+            }
+            Step::Passed(span, own) => {
+                setters = groups::counts::together(setters, own);
+                g += span;
+            }
         }
-        if n - g < span {
-            return refused(Rule::GroupShape, place, g);
-        }
-        let fault = groups::group_fault(group.seen, size, pixel & (g + span == n));
-        if let GroupFault::Broken(rule, behind) = fault {
-            return refused(rule, place, g + behind);
-        }
-        let seen = group.seen;
-        let issues = seen.issues;
-        let own = issues.setters;
-        setters = groups::counts::together(setters, own);
-        g += span;
     }
     push_verdict(push_before, setters, place)
+}
+
+// The group that starts at word `at`, with so many slots left in its clause: at a glance if it breaks nothing, else looked at again.
+fn next_group(
+    words: &[u32],
+    at: usize,
+    left: usize,
+    limits: Limits,
+    starts: &[u32; 32],
+    widths: &[u32; 32],
+    pixel: bool,
+) -> Step
+    requires { ⌜ Readable (now words) at left ⌝ }
+    requires { ⌜ now starts ≡ startsOf limits ⌝ }
+    requires { ⌜ now widths ≡ widthsOf limits ⌝ }
+    ensures { λ r. ⌜ r ≡ stepOf limits pixel (now (words .entry)) at left ⌝ }
+{
+    let glance = screen::screen_group(words, at, left, starts, widths, pixel);
+    let span = glance.span;
+    if span != 0 {
+        let own = glance.setters;
+        return Step::Passed(span, own);
+    }
+    judge_group(words, at, left, limits, pixel)
+}
+
+// The same with all that its first broken rule is told by.
+fn judge_group(words: &[u32], at: usize, left: usize, limits: Limits, pixel: bool) -> Step
+    requires { ⌜ Readable (now words) at left ⌝ }
+    ensures { λ r. ⌜ r ≡ stepOf limits pixel (now (words .entry)) at left ⌝ }
+{
+    let group = read_group(words, at, left, limits);
+    let size = group.size;
+    let span = size + group.seen.literals as usize;
+    if size == 0 {
+        return Step::Broken(Rule::GroupShape, 0);
+    }
+    if left < span {
+        return Step::Broken(Rule::GroupShape, 0);
+    }
+    let fault = groups::group_fault(group.seen, size, pixel & (span == left));
+    match fault {
+        GroupFault::Broken(rule, behind) => Step::Broken(rule, behind),
+        GroupFault::Clean => {
+            let seen = group.seen;
+            let issues = seen.issues;
+            let own = issues.setters;
+            Step::Passed(span, own)
+        }
+    }
 }
 
 // The group that starts at word `at`, with so many slots left in its clause.

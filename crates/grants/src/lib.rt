@@ -29,7 +29,7 @@ pub fn alu_register_granted(limits: Limits, r: u32) -> bool
 }
 
 // How many constants of a set its mode locks.
-fn locked_by(mode: u32) -> u32
+pub fn locked_by(mode: u32) -> u32
     ensures { λ r. ⌜ r ≡ locked mode ⌝ }
 {
     if mode == 0 {

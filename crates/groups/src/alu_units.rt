@@ -1,7 +1,7 @@
 // Rule 13: the unit that an instruction gets, and whether it may have it. Units 0 to 3 are X, Y, Z, W, 4 is Trans; the
 // units taken are the bits of a number. No branch goes by what a pack holds, since none of them could be foreseen.
 use bits::field;
-use bits::with_field;
+use bits::with_bit;
 use opcodes::alu::Unit;
 ghost use mathlib.Core.Path.{_≡_};
 ghost use Rattle.groups.specs.Group as group;
@@ -15,7 +15,7 @@ fn is_taken(taken: u32, unit: u32) -> bool
 pub fn take(taken: u32, unit: u32) -> u32
     ensures { λ r. ⌜ r ≡ group.take taken unit ⌝ }
 {
-    with_field(taken, unit, 1, 1)
+    with_bit(taken, unit)
 }
 
 fn is_any(class: Unit) -> bool

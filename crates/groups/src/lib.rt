@@ -140,7 +140,7 @@ pub fn group_fault(seen: Seen, size: usize, may_kill: bool) -> GroupFault
 }
 
 // Rule 14, from its figures.
-fn is_bad_issue(issues: Issues, size: usize, may_kill: bool) -> bool
+pub fn is_bad_issue(issues: Issues, size: usize, may_kill: bool) -> bool
     ensures { λ r. ⌜ r ≡ seen_spec.badIssues issues size «may_kill» ⌝ }
 {
     let wrong_kill = issues.kill & !may_kill;
@@ -150,7 +150,7 @@ fn is_bad_issue(issues: Issues, size: usize, may_kill: bool) -> bool
     counts::is_several(issued) | (wrong_kill | (wrong_mova | wrong_reduction))
 }
 
-fn next_issues(issues: Issues, issue: Issue, relative: bool, uneven: bool) -> Issues
+pub fn next_issues(issues: Issues, issue: Issue, relative: bool, uneven: bool) -> Issues
     ensures { λ r. ⌜ r ≡ seen_spec.nextIssues issues issue relative uneven ⌝ }
 {
     let setters = issues.setters;

@@ -3,32 +3,14 @@
 use borrow.Author.Needs.{needs}
 use mathlib.Core.Path.{_≡_, sym, ap, ap₂, _∙_, subst}
 use Prim.Native.Nat.{ℕ, _+_, _-_, _*_, _/_, _%_, _^_, _≤_, _<_}
-use native.Mathlib.Nat.{mod-lt, mod-eq-of-lt, div-eq-of-lt, lt-of-lt-of-le, lt-of-le-of-lt, div-mul-le-self, div-one, mul-comm, mul-assoc, add-zero, zero-add, zero-mul, sub-add-cancel}
+use native.Mathlib.Nat.{mod-lt, mod-eq-of-lt, lt-of-le-of-lt, div-mul-le-self, div-one, mul-comm, add-zero, sub-add-cancel}
 use native.Mathlib.Omega.{arith}
-use lib.Pow.{pow-pos, pow-add, pow-mono, high, low, mod-pow-add, shl-lt, shl-exact, shr-le}
+use lib.Pow.{pow-pos, pow-add, high, low, mod-pow-add, shl-lt, shl-exact, shr-le}
 use lib.Bits.{bitOr, or-shifted}
 use Rattle.bits.specs.Fields.{withField, fieldOf, placeOf}
-use Rattle.bits.proofs.OfField.{spliced-at, in-word}
+use Rattle.bits.proofs.OfField.{spliced-at, in-word, no-top, behind}
 use Rattle.bits.proofs.with_field.Statement.{statement}
 use Rattle.bits.proofs.with_field.Tie as tie
-
--- a field that ends behind bit 31 leaves nothing above it
-no-top : (n o w v : ℕ) → n < 2 ^ 32 → 32 ≤ o + w → withField n o w v ≡ (v % 2 ^ w * 2 ^ o + n % 2 ^ o) % 2 ^ 32
-no-top n o w v h l =
-    ap (λ (q : ℕ). (q * 2 ^ (o + w) + (v % 2 ^ w * 2 ^ o + n % 2 ^ o)) % 2 ^ 32) (div-eq-of-lt (lt-of-lt-of-le h (pow-mono l)))
-    ∙ ap (λ (q : ℕ). (q + (v % 2 ^ w * 2 ^ o + n % 2 ^ o)) % 2 ^ 32) (zero-mul (2 ^ (o + w)))
-    ∙ ap (λ (q : ℕ). q % 2 ^ 32) (zero-add (v % 2 ^ w * 2 ^ o + n % 2 ^ o))
-
--- a field that starts behind bit 31 changes nothing
-behind : (n o w v : ℕ) → n < 2 ^ 32 → 32 ≤ o → n ≡ withField n o w v
-behind n o w v h l =
-    let x = v % 2 ^ w in
-    let up : x * 2 ^ o ≡ x * 2 ^ (o - 32) * 2 ^ 32 =
-    ap (λ (k : ℕ). x * 2 ^ k) (sym (sub-add-cancel l)) ∙ ap (λ (y : ℕ). x * y) (pow-add 2 (o - 32) 32) ∙ sym (mul-assoc x (2 ^ (o - 32)) (2 ^ 32)) in
-    sym
-    (no-top n o w v h (omega arith)
-    ∙ ap₂ (λ (a b : ℕ). (a + b) % 2 ^ 32) up (mod-eq-of-lt (lt-of-lt-of-le h (pow-mono l)))
-    ∙ low (x * 2 ^ (o - 32)) 32 h)
 
 -- what lies at bit o and above, cut to the word, over what lies below
 cut : (x o r : ℕ) → o ≤ 32 → r < 2 ^ o → (x * 2 ^ o + r) % 2 ^ 32 ≡ x % 2 ^ (32 - o) * 2 ^ o + r

@@ -1,6 +1,6 @@
 -- `clauses::is_pixel` meets its contract, kind by kind. Assumes nothing.
 use borrow.Author.Needs.{needs}
-use mathlib.Core.Path.{_≡_, sym, ap}
+use mathlib.Core.Path.{sym, ap}
 use Rattle.clauses.specs.Clause.{isPixel}
 use Rattle.clauses.proofs.is_pixel.Statement.{statement}
 use Rattle.clauses.proofs.is_pixel.Tie as tie

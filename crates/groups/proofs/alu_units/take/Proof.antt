@@ -5,7 +5,7 @@ use Rattle.groups.proofs.alu_units.take.Tie as tie
 
 returns : tie.Need-returns
 unfolding take
-returns c = c .with-field .ensures
+returns c = c .with-bit .ensures
 
 pub take-spec : {M : Type 1} → statement M
 take-spec = tie.close (tie.spec (λ c κs. tt) returns)

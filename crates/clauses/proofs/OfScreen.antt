@@ -1,0 +1,173 @@
+-- A group at a glance: what is kept of it is all that has been seen, as long as nothing is broken. Assumes nothing.
+use Prim.Native.Nat.{ℕ, _+_, _<_, max}
+use mathlib.Core.Path.{_≡_, refl, sym, ap, _∙_}
+use mathlib.Core.Bool.{Bool, true, false, cond, not, _&&_, _||_}
+use mathlib.Core.List.{List}
+use lib.Dec.{eqb}
+use native.Mathlib.Omega.{arith}
+use Rattle.bits.specs.Fields.{fieldOf}
+use Rattle.opcodes.specs.declared.alu.Class.{Class}
+use Rattle.opcodes.specs.Alu.{isTaken}
+use Rattle.grants.specs.declared.Limits.{Limits}
+use Rattle.grants.specs.Grants.{allGranted}
+use Rattle.instructions.specs.Instruction.{classOf, badField, hasRelative, literals, named}
+use Rattle.screens.specs.Gaps.{startsOf, widthsOf, brokenBy}
+use Rattle.screens.proofs.OfGaps.{unbroken-field, unbroken-grants}
+use Rattle.groups.specs.declared.First.the-variants.{Nowhere}
+use Rattle.groups.specs.declared.GroupFault.the-variants.{Clean}
+use Rattle.groups.specs.declared.Issues.{Issues}
+use Rattle.groups.specs.declared.Seen.{Seen}
+use Rattle.groups.specs.Group.{Taken, unitFor, badUnit, take, isUneven, setters}
+use Rattle.groups.specs.Seen.{countOf, nextIssues, issuesOf, noneSeen, nextSeen, seenOf, faultOf}
+use Rattle.groups.proofs.OfSeen.{not-here, next-seen, breaks-none}
+use Rattle.clauses.specs.declared.screen.Glance.{Glance}
+use Rattle.clauses.specs.declared.Group.{Group}
+use Rattle.clauses.specs.Clause.{lowOf, highOf, sizeOf, spanOf}
+use Rattle.clauses.specs.Read.{groupOf}
+use Rattle.clauses.specs.Screen.{isWrong, Passes, ScreenedBy, Closes}
+use Rattle.clauses.proofs.OfRead.{Reading, reading-none, reading-last, reading-next}
+
+-- ---- one instruction's tests
+
+module _ (starts widths : List ℕ) (t : Taken) (k : Class) (u lo hi : ℕ) where
+  pub wrong-alone : brokenBy starts widths lo hi ≡ true → true ≡ isWrong starts widths t k u lo hi
+  unfolding isWrong
+  wrong-alone h = rw h
+
+  pub wrong-there :
+      {taken bad : Bool} {swizzle : ℕ} → brokenBy starts widths lo hi ≡ false → taken ≡ isTaken k → swizzle ≡ fieldOf hi 18 3
+      → bad ≡ badUnit t u swizzle → (not taken || bad) ≡ isWrong starts widths t k u lo hi
+  unfolding isWrong
+  wrong-there h e s f = (λ i. not (e i) || (f ∙ (λ j. badUnit t u (s j))) i) ∙ rw h
+
+  -- none of them: rules 12 and 15, 11, 13
+  right : isWrong starts widths t k u lo hi ≡ false
+      → (brokenBy starts widths lo hi ≡ false) × ((not (isTaken k) ≡ false) × (badUnit t u (fieldOf hi 18 3) ≡ false))
+  unfolding isWrong
+  right h = by (brokenBy starts widths lo hi) (not (isTaken k)) (badUnit t u (fieldOf hi 18 3)) h
+    where
+      by : (a b d : Bool) → cond a true (b || d) ≡ false → (a ≡ false) × ((b ≡ false) × (d ≡ false))
+      by false false d e = (refl, (refl, e))
+      by false true d e = let z : _≡_ {A = ℕ} 1 0 = cc in absurd (omega arith)
+      by true b d e = let z : _≡_ {A = ℕ} 1 0 = cc in absurd (omega arith)
+
+-- ---- instruction by instruction
+
+-- all that has been seen, where nothing was broken
+abbrev clearSeen : ℕ → Taken → Issues → Seen
+clearSeen n t i =
+    record { literals = n; numbers = Nowhere; fields = Nowhere; units = Nowhere; grants = Nowhere; taken = t; issues = i }
+
+-- one instruction more
+module _ (limits : Limits) (j first lo hi n : ℕ) (t : Taken) (i : Issues) {k : Class} {u : ℕ} {uneven : Bool}
+    (class-is : k ≡ classOf hi) (unit-is : u ≡ unitFor t (k .unit) (fieldOf hi 29 2)) (uneven-is : uneven ≡ isUneven j u first hi)
+    (h : isWrong (startsOf limits) (widthsOf limits) t k u lo hi ≡ false) where
+  next-clear :
+      {n' : ℕ} {t' : Taken} {i' : Issues} {relative : Bool} → relative ≡ hasRelative lo hi
+      → i' ≡ nextIssues i (k .issue) relative uneven → n' ≡ max n (literals lo hi) → t' ≡ take t u
+      → clearSeen n' t' i' ≡ nextSeen limits j first lo hi (clearSeen n t i)
+  next-clear relative-is issues-is literals-are taken-is =
+      let r = right (startsOf limits) (widthsOf limits) t k u lo hi h in
+      next-seen limits j first lo hi (clearSeen n t i)
+      (record {
+        class-is = class-is;
+        chan-is = refl;
+        unit-is = unit-is;
+        swizzle-is = refl;
+        bad-is = refl;
+        uneven-is = uneven-is;
+        taken-is = refl;
+      })
+      refl
+      literals-are
+      (not-here Nowhere j (not (isTaken k)) refl (r .1 .0))
+      refl
+      (not-here Nowhere j (badField lo hi) refl (unbroken-field limits lo hi (r .0)))
+      (not-here Nowhere j (badUnit t u (fieldOf hi 18 3)) refl (r .1 .1))
+      refl
+      (not-here Nowhere j (not (allGranted limits (named lo hi))) refl (ap not (unbroken-grants limits lo hi (r .0))))
+      taken-is
+      relative-is
+      issues-is
+
+-- the whole group
+module _ (limits : Limits) (w : List ℕ) (at left size n : ℕ) (t : Taken) (i : Issues) (pixel : Bool) (x : Glance)
+    (e : record { size = size; seen = clearSeen n t i } ≡ groupOf limits w at left) (some : 0 < size)
+    (d : Closes i size n left pixel x) where
+  size-there : size ≡ sizeOf w at left
+  unfolding groupOf
+  size-there = ap (λ (y : Group). y .size) e
+
+  span-there : size + n ≡ spanOf w at left
+  unfolding groupOf spanOf seenOf
+  span-there = ap (λ (y : Group). y .size + y .seen .literals) e
+
+  clean-there :
+      faultOf (seenOf limits (lowOf w at) (highOf w at) (sizeOf w at left)) (sizeOf w at left) (pixel && eqb (spanOf w at left) left)
+      ≡ Clean
+  unfolding groupOf
+  clean-there =
+      sym (λ y. faultOf (e y .seen) (e y .size) (pixel && eqb (span-there y) left))
+      ∙ sym (breaks-none (clearSeen n t i) size (pixel && eqb (size + n) left) refl refl refl refl (d .keeps) refl)
+
+  counted-there : x .setters ≡ countOf (setters (highOf w at) (sizeOf w at left))
+  unfolding groupOf seenOf issuesOf
+  counted-there = d .counts ∙ ap (λ (y : Group). y .seen .issues .setters) e
+
+  passed : Passes limits w at left pixel x
+  passed =
+      record {
+        sized = λ z. absurd (omega (arith, z, size-there, some));
+        spans = d .spans ∙ span-there;
+        fits = omega (arith, span-there, d .fits);
+        clean = clean-there;
+        counts = counted-there;
+      }
+
+module _ (w : List ℕ) (at left : ℕ) where
+  -- j instructions are read, none of them is the last, and none breaks rule 11, 12, 13 or 15
+  pub record Screening (starts widths : List ℕ) (first n : ℕ) (t : Taken) (i : Issues) (j : ℕ) : Type 0 where
+    pub reads :
+        (limits : Limits) → starts ≡ startsOf limits → widths ≡ widthsOf limits
+        → Reading w at left limits first (clearSeen n t i) j
+
+  module _ (starts widths : List ℕ) where
+    pub screening-none :
+        {first : ℕ} {none : Seen} → first ≡ highOf w at 0 → none ≡ noneSeen → Screening starts widths first 0 0 (none .issues) 0
+    screening-none e f =
+        record { reads = λ limits p q. reading-none w at left limits e (λ k. clearSeen 0 0 (f k .issues)) }
+
+    module _ {first n : ℕ} {t : Taken} {i : Issues} {j : ℕ} (r : Screening starts widths first n t i j) (l : j < 5) (m : j < left)
+        {lo hi : ℕ} (p : lo ≡ lowOf w at j) (q : hi ≡ highOf w at j) {k : Class} {u n' : ℕ} {t' : Taken} {i' : Issues}
+        {uneven relative wrong : Bool} (class-is : k ≡ classOf hi) (unit-is : u ≡ unitFor t (k .unit) (fieldOf hi 29 2))
+        (wrong-is : wrong ≡ isWrong starts widths t k u lo hi) (h : wrong ≡ false) (relative-is : relative ≡ hasRelative lo hi)
+        (uneven-is : uneven ≡ isUneven j u first hi) (issues-is : i' ≡ nextIssues i (k .issue) relative uneven)
+        (literals-are : n' ≡ max n (literals lo hi)) (taken-is : t' ≡ take t u) {last : ℕ} (f : last ≡ fieldOf lo 31 1) where
+      after :
+          (limits : Limits) → starts ≡ startsOf limits → widths ≡ widthsOf limits
+          → clearSeen n' t' i' ≡ nextSeen limits j first lo hi (clearSeen n t i)
+      after limits a b =
+          next-clear limits j first lo hi n t i class-is unit-is uneven-is
+          ((λ x. isWrong (sym a x) (sym b x) t k u lo hi) ∙ sym wrong-is ∙ h) relative-is issues-is literals-are taken-is
+
+      pub screening-next : (last ≡ 1 → ⊥) → Screening starts widths first n' t' i' (j + 1)
+      screening-next g =
+          record {
+            reads =
+                λ limits a b. reading-next w at left limits (r .reads limits a b) l m p q (after limits a b) f g;
+          }
+
+      pub screening-last :
+          last ≡ 1 → (pixel : Bool) {x : Glance} → (0 < x .span → Closes i' (j + 1) n' left pixel x)
+          → ScreenedBy starts widths w at left pixel x
+      screening-last g pixel {x} closes =
+          record { passes = λ limits a b some. passed limits w at left (j + 1) n' t' i' pixel x (reading-last w at left limits (r .reads limits a b) l m p q (after limits a b) f g) (omega arith) (closes some) }
+
+  -- a glance without slots says nothing
+  pub screening-not :
+      (starts widths : List ℕ) (pixel : Bool) {x : Glance} → x .span ≡ 0 → ScreenedBy starts widths w at left pixel x
+  screening-not starts widths pixel e = record { passes = λ limits a b some. absurd (omega (arith, some, e)) }
+
+pub closes-not :
+    (i : Issues) (size n left : ℕ) (pixel : Bool) {x : Glance} → x .span ≡ 0 → 0 < x .span → Closes i size n left pixel x
+closes-not i size n left pixel e some = absurd (omega (arith, some, e))

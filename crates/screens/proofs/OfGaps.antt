@@ -1,0 +1,342 @@
+-- The gaps by what the code tests, and what they say of rules 12 and 15: an instruction that they let through breaks neither. Assumes
+-- nothing.
+use mathlib.Core.Path.{_≡_, refl, sym, ap, _∙_}
+use mathlib.Core.Bool.{Bool, true, false, cond, _&&_, _||_}
+use mathlib.Core.List.{List, [], _∷_, _++_}
+use Prim.Native.Nat.{ℕ, zero, suc, _+_, _-_, _*_, _/_, _%_, _^_, _≤_, _<_, min, max}
+use native.Mathlib.Omega.{arith}
+use lib.Dec.{eqb, ltb, leb}
+use lib.ListN.{getD, drop}
+use borrow.Author.Tests.{ltb-true, ltb-false, le-leb}
+use Rattle.bits.specs.Fields.{fieldOf}
+use Rattle.grants.specs.declared.Limits.{Limits}
+use Rattle.grants.specs.Grants.{Name, aluRegister, set0, set1, constant, locked, granted, allGranted, sourceNames}
+use Rattle.grants.proofs.OfGrants.{locked-most, all-joined}
+use Rattle.instructions.specs.declared.Source.{Source}
+use Rattle.instructions.specs.Instruction.{isOp3, isWritten, isRelative, badSource, badField, namesOf, destinationNames, named, literals, sourceLiterals, source0Of, source1Of, source2Of}
+use Rattle.screens.specs.Gaps.{times, byRow, startsOf, widthsOf, isAmong, inGap, namesDestination, asksLiteral, brokenBy}
+
+-- ---- what the code tests
+
+-- a difference counted in 32 bits
+pub wrapped : (x f r : ℕ) → x < 2 ^ 32 → f < 2 ^ 32 → r < 2 ^ 32 → (r + f) % 2 ^ 32 ≡ x → r ≡ (x + (2 ^ 32 - f)) % 2 ^ 32
+wrapped x f r h k l e = omega (arith, h, k, l, e)
+
+-- no source is a literal, so none asks for a quadword
+pub no-literal : (n lo hi : ℕ) → asksLiteral lo hi ≡ false → n ≡ max n (literals lo hi)
+unfolding asksLiteral literals sourceLiterals
+no-literal n lo hi =
+    by (eqb (fieldOf lo 0 9) 253) (eqb (fieldOf lo 13 9) 253) (isOp3 hi) (eqb (fieldOf hi 0 9) 253)
+  where
+    by :
+        (a b d e : Bool) → (a || (b || (d && e))) ≡ false
+        → n ≡ max n (max (max (cond a (fieldOf lo 10 2 / 2 + 1) 0) (cond b (fieldOf lo 23 2 / 2 + 1) 0)) (cond d (cond e (fieldOf hi 10 2 / 2 + 1) 0) 0))
+    by false false false e h = omega arith
+    by false false true false h = omega arith
+    by false false true true h = let z : _≡_ {A = ℕ} 1 0 = cc in absurd (omega arith)
+    by false true d e h = let z : _≡_ {A = ℕ} 1 0 = cc in absurd (omega arith)
+    by true b d e h = let z : _≡_ {A = ℕ} 1 0 = cc in absurd (omega arith)
+
+-- ---- one instruction, test by test
+
+-- what the code has asked so far
+module _ (starts widths : List ℕ) (lo hi : ℕ) where
+  abbrev fieldTest : Bool
+  fieldTest = eqb (fieldOf lo 29 2) 1 || (ltb 4 (fieldOf lo 26 3) || ltb 5 (fieldOf hi 18 3))
+
+  abbrev sourceTest : Bool
+  sourceTest = inGap starts widths (fieldOf lo 0 10) || inGap starts widths (fieldOf lo 13 10)
+
+  abbrev thirdTest : Bool
+  thirdTest = isOp3 hi && inGap starts widths (fieldOf hi 0 10)
+
+  abbrev destinationTest : Bool
+  destinationTest = inGap starts widths (fieldOf hi 21 7)
+
+  pub by-field : fieldTest ≡ true → true ≡ brokenBy starts widths lo hi
+  unfolding brokenBy
+  by-field a = rw a
+
+  module _ (a : fieldTest ≡ false) where
+    pub by-source : sourceTest ≡ true → true ≡ brokenBy starts widths lo hi
+    unfolding brokenBy
+    by-source b = rw (a, b)
+
+    module _ (b : sourceTest ≡ false) where
+      pub by-third : thirdTest ≡ true → true ≡ brokenBy starts widths lo hi
+      unfolding brokenBy
+      by-third d = rw (a, b, d)
+
+      module _ (d : thirdTest ≡ false) where
+        pub by-destination : {n : Bool} → destinationTest ≡ true → n ≡ namesDestination hi → n ≡ brokenBy starts widths lo hi
+        unfolding brokenBy
+        by-destination e f = f ∙ rw (a, b, d, e)
+
+        pub by-none : destinationTest ≡ false → false ≡ brokenBy starts widths lo hi
+        unfolding brokenBy
+        by-none e = rw (a, b, d, e)
+
+-- ---- rows
+
+run-in : (k v : ℕ) (rest : List ℕ) (r : ℕ) → r < k → getD (times k v rest) r 0 ≡ v
+run-in zero v rest r h = absurd (omega arith)
+run-in (suc k) v rest zero h = refl
+run-in (suc k) v rest (suc r) h = run-in k v rest r (omega arith)
+
+skipped : (k : ℕ) (l : List ℕ) (r : ℕ) → getD l (k + r) 0 ≡ getD (drop k l) r 0
+skipped zero l r = let e : zero + r ≡ r = omega arith in ap (λ (n : ℕ). getD l n 0) e
+skipped (suc k) [] r = refl
+skipped (suc k) (n ∷ l) r =
+    let e : suc k + r ≡ suc (k + r) = omega arith in ap (λ (m : ℕ). getD (n ∷ l) m 0) e ∙ skipped k l r
+
+module _ (a b d e f g : ℕ) where
+  row-registers : (r : ℕ) → r < 4 → getD (byRow a b d e f g) r 0 ≡ a
+  row-registers r h = run-in 4 a (drop 4 (byRow a b d e f g)) r h
+
+  row-inline : (r : ℕ) → r < 2 → getD (byRow a b d e f g) (6 + r) 0 ≡ e
+  row-inline r h = skipped 6 (byRow a b d e f g) r ∙ run-in 2 e (drop 8 (byRow a b d e f g)) r h
+
+  row-constants : (r : ℕ) → r < 8 → getD (byRow a b d e f g) (8 + r) 0 ≡ f
+  row-constants r h = skipped 8 (byRow a b d e f g) r ∙ run-in 8 f (drop 16 (byRow a b d e f g)) r h
+
+  row-relative : (r : ℕ) → r < 2 → getD (byRow a b d e f g) (22 + r) 0 ≡ g
+  row-relative r h = skipped 22 (byRow a b d e f g) r ∙ run-in 2 g (drop 24 (byRow a b d e f g)) r h
+
+-- ---- what lies outside its row's gap
+
+past-gap : (x s w : ℕ) → x < 2 ^ 32 → s ≤ x → isAmong x s w ≡ false → s + w ≤ x
+unfolding isAmong
+past-gap x s w h l e =
+    let z = ltb-false ((x + (2 ^ 32 - s)) % 2 ^ 32) w e in let y : (x + (2 ^ 32 - s)) % 2 ^ 32 ≡ x - s = omega (arith, h, l) in omega (arith, z, y, l)
+
+-- one of a row's six numbers
+abbrev Pick : Type 0
+Pick = ℕ → ℕ → ℕ → ℕ → ℕ → ℕ → ℕ
+
+module _ (l : Limits) (x : ℕ) (h : inGap (startsOf l) (widthsOf l) x ≡ false) where
+  -- by the start and the width of its row
+  row-gap :
+      (pick : Pick) → ((a b d e f g : ℕ) → getD (byRow a b d e f g) (x / 32 % 32) 0 ≡ pick a b d e f g)
+      → isAmong x (pick (l .gprs) (128 + locked (l .mode0)) (160 + locked (l .mode1)) 192 (256 + min (l .consts) 256) 704) (pick (128 - l .temps - l .gprs) (32 - locked (l .mode0)) (32 - locked (l .mode1)) 56 (256 - min (l .consts) 256) 64) ≡ false
+  unfolding inGap startsOf widthsOf
+  row-gap pick row = sym (λ i. isAmong x (row (l .gprs) (128 + locked (l .mode0)) (160 + locked (l .mode1)) 192 (256 + min (l .consts) 256) 704 i) (row (128 - l .temps - l .gprs) (32 - locked (l .mode0)) (32 - locked (l .mode1)) 56 (256 - min (l .consts) 256) 64 i)) ∙ h
+
+  register-clear : x < 128 → granted l (aluRegister x) ≡ true
+  register-clear k = by (ltb x (l .gprs)) refl
+    where
+      by : (t : Bool) → ltb x (l .gprs) ≡ t → (t || leb (128 - l .temps) x) ≡ true
+      by true e = refl
+      by false e =
+          let s = ltb-false x (l .gprs) e in
+          let row : x / 32 % 32 < 4 = omega arith in
+          let g = past-gap x (l .gprs) (128 - l .temps - l .gprs) (omega arith) s (row-gap (λ a b d e f g. a) (λ a b d e f g. row-registers a b d e f g (x / 32 % 32) row)) in
+          le-leb (128 - l .temps) x (omega (arith, s, g))
+
+  set0-clear : 128 ≤ x → x < 160 → ltb (x - 128) (locked (l .mode0)) ≡ true
+  set0-clear m k = by (ltb (x - 128) (locked (l .mode0))) refl
+    where
+      by : (t : Bool) → ltb (x - 128) (locked (l .mode0)) ≡ t → t ≡ true
+      by true e = refl
+      by false e =
+          let s = ltb-false (x - 128) (locked (l .mode0)) e in
+          let row : x / 32 % 32 ≡ 4 = omega arith in
+          let g = past-gap x (128 + locked (l .mode0)) (32 - locked (l .mode0)) (omega arith) (omega (arith, s)) (row-gap (λ a b d e f g. b) (λ a b d e f g. ap (λ (n : ℕ). getD (byRow a b d e f g) n 0) row)) in
+          absurd (omega (arith, s, g, locked-most (l .mode0)))
+
+  set1-clear : 160 ≤ x → x < 192 → ltb (x - 160) (locked (l .mode1)) ≡ true
+  set1-clear m k = by (ltb (x - 160) (locked (l .mode1))) refl
+    where
+      by : (t : Bool) → ltb (x - 160) (locked (l .mode1)) ≡ t → t ≡ true
+      by true e = refl
+      by false e =
+          let s = ltb-false (x - 160) (locked (l .mode1)) e in
+          let row : x / 32 % 32 ≡ 5 = omega arith in
+          let g = past-gap x (160 + locked (l .mode1)) (32 - locked (l .mode1)) (omega arith) (omega (arith, s)) (row-gap (λ a b d e f g. d) (λ a b d e f g. ap (λ (n : ℕ). getD (byRow a b d e f g) n 0) row)) in
+          absurd (omega (arith, s, g, locked-most (l .mode1)))
+
+  constant-clear : 256 ≤ x → x < 512 → ltb (x - 256) (l .consts) ≡ true
+  constant-clear m k = by (ltb (x - 256) (l .consts)) refl
+    where
+      by : (t : Bool) → ltb (x - 256) (l .consts) ≡ t → t ≡ true
+      by true e = refl
+      by false e =
+          let s = ltb-false (x - 256) (l .consts) e in
+          let row : x / 32 % 32 ≡ 8 + (x / 32 % 32 - 8) = omega arith in
+          let few : x / 32 % 32 - 8 < 8 = omega arith in
+          let g = past-gap x (256 + min (l .consts) 256) (256 - min (l .consts) 256) (omega arith) (omega (arith, s)) (row-gap (λ a b d e f g. f) (λ a b d e f g. ap (λ (n : ℕ). getD (byRow a b d e f g) n 0) row ∙ row-constants a b d e f g (x / 32 % 32 - 8) few)) in
+          absurd (omega (arith, s, g))
+
+  not-reserved : 192 ≤ x → x < 248 → ⊥
+  not-reserved m k =
+      let row : x / 32 % 32 ≡ 6 + (x / 32 % 32 - 6) = omega arith in
+      let few : x / 32 % 32 - 6 < 2 = omega arith in
+      let g = past-gap x 192 56 (omega arith) m (row-gap (λ a b d e f g. e) (λ a b d e f g. ap (λ (n : ℕ). getD (byRow a b d e f g) n 0) row ∙ row-inline a b d e f g (x / 32 % 32 - 6) few)) in
+      omega (arith, g)
+
+  not-relative : 704 ≤ x → x < 768 → ⊥
+  not-relative m k =
+      let row : x / 32 % 32 ≡ 22 + (x / 32 % 32 - 22) = omega arith in
+      let few : x / 32 % 32 - 22 < 2 = omega arith in
+      let g = past-gap x 704 64 (omega arith) m (row-gap (λ a b d e f g. g) (λ a b d e f g. ap (λ (n : ℕ). getD (byRow a b d e f g) n 0) row ∙ row-relative a b d e f g (x / 32 % 32 - 22) few)) in
+      omega (arith, g)
+
+-- ---- one source
+
+module _ (l : Limits) (s : Source) (h : inGap (startsOf l) (widthsOf l) (s .sel + 512 * s .rel) ≡ false) where
+  module _ (z : s .rel ≡ 0) where
+    direct : isRelative s ≡ false
+    unfolding isRelative
+    direct = rw z
+
+    clear : inGap (startsOf l) (widthsOf l) (s .sel) ≡ false
+    clear = let e : s .sel ≡ s .sel + 512 * s .rel = omega (arith, z) in ap (inGap (startsOf l) (widthsOf l)) e ∙ h
+
+    direct-fields : badSource s ≡ false
+    unfolding badSource
+    direct-fields = by (ltb (s .sel) 192) refl (ltb (s .sel) 248) refl (ltb (s .sel) 256)
+      where
+        by :
+            (a : Bool) → ltb (s .sel) 192 ≡ a → (b : Bool) → ltb (s .sel) 248 ≡ b → (d : Bool)
+            → cond a false (cond b true (cond d (isRelative s) false)) ≡ false
+        by true e b f d = refl
+        by false e true f d =
+            absurd (not-reserved l (s .sel) clear (ltb-false (s .sel) 192 e) (ltb-true (s .sel) 248 f))
+        by false e false f true = direct
+        by false e false f false = refl
+
+    direct-names : s .sel < 512 → allGranted l (namesOf s) ≡ true
+    unfolding namesOf
+    direct-names k =
+        ap (λ (b : Bool). allGranted l (cond b [] (sourceNames (s .sel)))) direct
+        ∙ by (ltb (s .sel) 128) refl (ltb (s .sel) 160) refl (ltb (s .sel) 192) refl (ltb (s .sel) 256) refl
+      where
+        by :
+            (a : Bool) → ltb (s .sel) 128 ≡ a → (b : Bool) → ltb (s .sel) 160 ≡ b → (d : Bool) → ltb (s .sel) 192 ≡ d → (e : Bool)
+            → ltb (s .sel) 256 ≡ e
+            → allGranted l (cond a (aluRegister (s .sel) ∷ []) (cond b (set0 (s .sel - 128) ∷ []) (cond d (set1 (s .sel - 160) ∷ []) (cond e [] (constant (s .sel - 256) ∷ []))))) ≡ true
+        by true a b p d q e r =
+            ap (λ (t : Bool). t && true) (register-clear l (s .sel) clear (ltb-true (s .sel) 128 a))
+        by false a true p d q e r =
+            ap (λ (t : Bool). t && true) (set0-clear l (s .sel) clear (ltb-false (s .sel) 128 a) (ltb-true (s .sel) 160 p))
+        by false a false p true q e r =
+            ap (λ (t : Bool). t && true) (set1-clear l (s .sel) clear (ltb-false (s .sel) 160 p) (ltb-true (s .sel) 192 q))
+        by false a false p false q true r = refl
+        by false a false p false q false r =
+            ap (λ (t : Bool). t && true) (constant-clear l (s .sel) clear (ltb-false (s .sel) 256 r) k)
+
+  module _ (z : s .rel ≡ 1) where
+    relative-fields : badSource s ≡ false
+    unfolding badSource
+    relative-fields = by (ltb (s .sel) 192) refl (ltb (s .sel) 248) refl (ltb (s .sel) 256) refl
+      where
+        no : 192 ≤ s .sel → s .sel < 256 → ⊥
+        no m k = not-relative l (s .sel + 512 * s .rel) h (omega (arith, m, z)) (omega (arith, k, z))
+
+        by :
+            (a : Bool) → ltb (s .sel) 192 ≡ a → (b : Bool) → ltb (s .sel) 248 ≡ b → (d : Bool) → ltb (s .sel) 256 ≡ d
+            → cond a false (cond b true (cond d (isRelative s) false)) ≡ false
+        by true e b f d g = refl
+        by false e true f d g = absurd (no (ltb-false (s .sel) 192 e) (omega (arith, ltb-true (s .sel) 248 f)))
+        by false e false f true g = absurd (no (ltb-false (s .sel) 192 e) (ltb-true (s .sel) 256 g))
+        by false e false f false g = refl
+
+    relative-names : allGranted l (namesOf s) ≡ true
+    unfolding namesOf isRelative
+    relative-names = rw z
+
+  -- outside the gaps a source breaks neither rule
+  source-clear : s .sel < 512 → s .rel < 2 → (badSource s ≡ false) × (allGranted l (namesOf s) ≡ true)
+  source-clear k m = by (s .rel) refl
+    where
+      by : (r : ℕ) → s .rel ≡ r → (badSource s ≡ false) × (allGranted l (namesOf s) ≡ true)
+      by zero e = (direct-fields e, direct-names e k)
+      by (suc zero) e = (relative-fields e, relative-names e)
+      by (suc (suc r)) e = absurd (omega (arith, e, m))
+
+-- ---- one instruction
+
+-- nine bits and the tenth above them
+module _ (n : ℕ) where
+  source0-bits : fieldOf n 0 10 ≡ fieldOf n 0 9 + 512 * fieldOf n 9 1
+  source0-bits = omega arith
+
+  source1-bits : fieldOf n 13 10 ≡ fieldOf n 13 9 + 512 * fieldOf n 22 1
+  source1-bits = omega arith
+
+neither : (a b : Bool) → (a || b) ≡ false → (a ≡ false) × (b ≡ false)
+neither false b h = (refl, h)
+neither true b h = let z : _≡_ {A = ℕ} 1 0 = cc in absurd (omega arith)
+
+tests-false :
+    (a b d e : Bool) → cond a true (cond b true (cond d true e)) ≡ false
+    → (a ≡ false) × ((b ≡ false) × ((d ≡ false) × (e ≡ false)))
+tests-false false false false e h = (refl, (refl, (refl, h)))
+tests-false false false true e h = let z : _≡_ {A = ℕ} 1 0 = cc in absurd (omega arith)
+tests-false false true d e h = let z : _≡_ {A = ℕ} 1 0 = cc in absurd (omega arith)
+tests-false true b d e h = let z : _≡_ {A = ℕ} 1 0 = cc in absurd (omega arith)
+
+module _ (l : Limits) (lo hi : ℕ) (h : brokenBy (startsOf l) (widthsOf l) lo hi ≡ false) where
+  asked :
+      (fieldTest (startsOf l) (widthsOf l) lo hi ≡ false)
+      × ((sourceTest (startsOf l) (widthsOf l) lo hi ≡ false) × ((thirdTest (startsOf l) (widthsOf l) lo hi ≡ false) × ((destinationTest (startsOf l) (widthsOf l) lo hi && namesDestination hi) ≡ false)))
+  unfolding brokenBy
+  asked =
+      tests-false (fieldTest (startsOf l) (widthsOf l) lo hi) (sourceTest (startsOf l) (widthsOf l) lo hi) (thirdTest (startsOf l) (widthsOf l) lo hi) (destinationTest (startsOf l) (widthsOf l) lo hi && namesDestination hi)
+      h
+
+  first-two :
+      (inGap (startsOf l) (widthsOf l) (fieldOf lo 0 10) ≡ false) × (inGap (startsOf l) (widthsOf l) (fieldOf lo 13 10) ≡ false)
+  first-two = neither (inGap (startsOf l) (widthsOf l) (fieldOf lo 0 10)) _ (asked .1 .0)
+
+  first : (badSource (source0Of lo) ≡ false) × (allGranted l (namesOf (source0Of lo)) ≡ true)
+  first =
+      source-clear l (source0Of lo) (ap (inGap (startsOf l) (widthsOf l)) (sym (source0-bits lo)) ∙ first-two .0) (omega arith)
+      (omega arith)
+
+  second : (badSource (source1Of lo) ≡ false) × (allGranted l (namesOf (source1Of lo)) ≡ true)
+  second =
+      source-clear l (source1Of lo) (ap (inGap (startsOf l) (widthsOf l)) (sym (source1-bits lo)) ∙ first-two .1) (omega arith)
+      (omega arith)
+
+  third :
+      ((isOp3 hi && badSource (source2Of hi)) ≡ false) × (allGranted l (cond (isOp3 hi) (namesOf (source2Of hi)) []) ≡ true)
+  third = by (isOp3 hi) (asked .1 .1 .0)
+    where
+      by :
+          (b : Bool) → (b && inGap (startsOf l) (widthsOf l) (fieldOf hi 0 10)) ≡ false
+          → ((b && badSource (source2Of hi)) ≡ false) × (allGranted l (cond b (namesOf (source2Of hi)) []) ≡ true)
+      by false e = (refl, refl)
+      by true e =
+          source-clear l (source2Of hi) (ap (inGap (startsOf l) (widthsOf l)) (sym (source0-bits hi)) ∙ e) (omega arith)
+          (omega arith)
+
+  destination : allGranted l (destinationNames hi) ≡ true
+  unfolding destinationNames namesDestination
+  destination = by (isWritten hi && eqb (fieldOf hi 28 1) 0) (inGap (startsOf l) (widthsOf l) (fieldOf hi 21 7)) refl (asked .1 .1 .1)
+    where
+      by :
+          (b e : Bool) → inGap (startsOf l) (widthsOf l) (fieldOf hi 21 7) ≡ e → (e && b) ≡ false
+          → allGranted l (cond b (aluRegister (fieldOf hi 21 7) ∷ []) []) ≡ true
+      by false e p q = refl
+      by true false p q = ap (λ (t : Bool). t && true) (register-clear l (fieldOf hi 21 7) p (omega arith))
+      by true true p q = let z : _≡_ {A = ℕ} 1 0 = cc in absurd (omega arith)
+
+  -- an instruction that the gaps let through breaks neither rule 12
+  pub unbroken-field : badField lo hi ≡ false
+  unfolding badField
+  unbroken-field =
+      let f = neither (eqb (fieldOf lo 29 2) 1) _ (asked .0) in
+      let g = neither (ltb 4 (fieldOf lo 26 3)) _ (f .1) in
+      rw (f .0, g .0, g .1, first .0, second .0) (third .0)
+
+  -- nor rule 15
+  pub unbroken-grants : allGranted l (named lo hi) ≡ true
+  unfolding named
+  unbroken-grants =
+      both-granted (destinationNames hi) (namesOf (source0Of lo) ++ (namesOf (source1Of lo) ++ cond (isOp3 hi) (namesOf (source2Of hi)) [])) destination
+      (both-granted (namesOf (source0Of lo)) (namesOf (source1Of lo) ++ cond (isOp3 hi) (namesOf (source2Of hi)) []) (first .1)
+      (both-granted (namesOf (source1Of lo)) (cond (isOp3 hi) (namesOf (source2Of hi)) []) (second .1) (third .1)))
+    where
+      both-granted :
+          (a b : List Name) → allGranted l a ≡ true → allGranted l b ≡ true → allGranted l (a ++ b) ≡ true
+      both-granted a b p q = all-joined l a b ∙ (λ i. p i && q i)

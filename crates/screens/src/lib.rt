@@ -1,0 +1,165 @@
+// One ALU instruction at a glance: whether it breaks rule 12 or 15 by itself, in as few steps as an accepted instruction needs.
+//
+// The sources that these rules refuse are gaps among the 1,024 values that SEL and REL have together, and no 32 values in a row have two of
+// them: so a source is looked up in a table of gaps, which is made once for a clause. Which rule is broken, and where, is left to
+// `groups`. Branches go by what an accepted pack never has, so that each of them is foreseen.
+use bits::field;
+use grants::Limits;
+use instructions::is_op3;
+use instructions::larger;
+use instructions::literals_of;
+ghost use mathlib.Core.Path.{_≡_};
+ghost use mathlib.Core.Bool.{_&&_};
+ghost use Prim.Native.Nat.{_-_, max, min};
+ghost use Rattle.bits.specs.Fields.{fieldOf};
+ghost use Rattle.instructions.specs.Instruction as instruction;
+ghost use Rattle.screens.specs.Gaps.{byRow, startsOf, widthsOf, isAmong, inGap, namesDestination, asksLiteral, brokenBy};
+
+// A number for each 32 values: registers, the two sets of locked constants, what is reserved among the inline constants, the constant
+// file; then, with REL set, the inline constants.
+fn by_row(regs: u32, set0: u32, set1: u32, inline: u32, consts: u32, rel: u32) -> [u32; 32]
+    ensures { λ r. ⌜ r ≡ byRow regs set0 set1 inline consts rel ⌝ }
+{
+    [
+        regs,
+        regs,
+        regs,
+        regs,
+        set0,
+        set1,
+        inline,
+        inline,
+        consts,
+        consts,
+        consts,
+        consts,
+        consts,
+        consts,
+        consts,
+        consts,
+        0,
+        0,
+        0,
+        0,
+        0,
+        0,
+        rel,
+        rel,
+        0,
+        0,
+        0,
+        0,
+        0,
+        0,
+        0,
+        0,
+    ]
+}
+
+fn smaller(a: u32, b: u32) -> u32
+    ensures { λ r. ⌜ r ≡ min a b ⌝ }
+{
+    if a < b { a } else { b }
+}
+
+fn less(a: u32, b: u32) -> u32
+    ensures { λ r. ⌜ r ≡ a - b ⌝ }
+{
+    if b < a { a - b } else { 0 }
+}
+
+// Where the gaps start.
+pub fn gap_starts(limits: Limits) -> [u32; 32]
+    ensures { λ r. ⌜ r ≡ startsOf limits ⌝ }
+{
+    let set0 = 128 + grants::locked_by(limits.mode0);
+    let set1 = 160 + grants::locked_by(limits.mode1);
+    let constants = 256 + smaller(limits.consts, 256);
+    by_row(limits.gprs, set0, set1, 192, constants, 704)
+}
+
+// How many values they have.
+pub fn gap_widths(limits: Limits) -> [u32; 32]
+    ensures { λ r. ⌜ r ≡ widthsOf limits ⌝ }
+{
+    let registers = less(less(128, limits.temps), limits.gprs);
+    let set0 = 32 - grants::locked_by(limits.mode0);
+    let set1 = 32 - grants::locked_by(limits.mode1);
+    let constants = 256 - smaller(limits.consts, 256);
+    by_row(registers, set0, set1, 56, constants, 64)
+}
+
+// Whether x is one of the `width` numbers from `start` on.
+fn is_among(x: u32, start: u32, width: u32) -> bool
+    ensures { λ r. ⌜ r ≡ isAmong x start width ⌝ }
+{
+    let behind = std::num::wrapping_sub_u32(x, start);
+    behind < width
+}
+
+// Whether a value lies in a gap.
+fn in_gap(starts: &[u32; 32], widths: &[u32; 32], x: u32) -> bool
+    ensures { λ r. ⌜ r ≡ inGap (now (starts .entry)) (now (widths .entry)) x ⌝ }
+{
+    let row = (x / 32 % 32) as usize;
+    is_among(x, starts[row], widths[row])
+}
+
+// Source 2 of an OP3.
+fn third_in_gap(starts: &[u32; 32], widths: &[u32; 32], high: u32) -> bool
+    ensures { λ r. ⌜ r ≡ (instruction.isOp3 high && inGap (now (starts .entry)) (now (widths .entry)) (fieldOf high 0 10)) ⌝ }
+{
+    if is_op3(high) {
+        return in_gap(starts, widths, field(high, 0, 10));
+    }
+    false
+}
+
+fn names_destination(high: u32) -> bool
+    ensures { λ r. ⌜ r ≡ namesDestination high ⌝ }
+{
+    (is_op3(high) | (field(high, 4, 1) == 1)) & (field(high, 28, 1) == 0)
+}
+
+// Whether the instruction breaks rule 12 or 15, by the gaps.
+pub fn breaks_alone(starts: &[u32; 32], widths: &[u32; 32], low: u32, high: u32) -> bool
+    ensures { λ r. ⌜ r ≡ brokenBy (now (starts .entry)) (now (widths .entry)) low high ⌝ }
+{
+    let predicate = field(low, 29, 2) == 1;
+    let index = 4 < field(low, 26, 3);
+    let swizzle = 5 < field(high, 18, 3);
+    if predicate | (index | swizzle) {
+        return true;
+    }
+    let first = in_gap(starts, widths, field(low, 0, 10));
+    let second = in_gap(starts, widths, field(low, 13, 10));
+    if first | second {
+        return true;
+    }
+    if third_in_gap(starts, widths, high) {
+        return true;
+    }
+    if in_gap(starts, widths, field(high, 21, 7)) {
+        return names_destination(high);
+    }
+    false
+}
+
+fn asks_literal(low: u32, high: u32) -> bool
+    ensures { λ r. ⌜ r ≡ asksLiteral low high ⌝ }
+{
+    let first = field(low, 0, 9) == 253;
+    let second = field(low, 13, 9) == 253;
+    let third = is_op3(high) & (field(high, 0, 9) == 253);
+    first | (second | third)
+}
+
+// The literal quadwords of a group with this instruction in it, too.
+pub fn more_literals(so_far: u32, low: u32, high: u32) -> u32
+    ensures { λ r. ⌜ r ≡ max «so_far» (instruction.literals low high) ⌝ }
+{
+    if asks_literal(low, high) {
+        return larger(so_far, literals_of(low, high));
+    }
+    so_far
+}
