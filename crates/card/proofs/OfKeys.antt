@@ -1,17 +1,20 @@
--- Keys and words: compared one byte after the other, and the value behind a key. Assumes nothing.
-use mathlib.Core.Path.{_≡_, refl, ap, sym, _∙_}
-use mathlib.Core.Bool.{Bool, true, false, _&&_, and-false}
-use mathlib.Core.List.{List, [], _∷_}
-use mathlib.Core.Option.{Option, none, some, Option·getD}
+-- Keys and words: compared one byte after the other where they stand, and what the line is that begins with them. Assumes nothing.
+use mathlib.Core.Path.{_≡_, refl, ap, ap₂, sym, _∙_}
+use mathlib.Core.Bool.{Bool, true, false, cond, not, _&&_, and-false}
+use mathlib.Core.List.{List, [], _∷_, _++_, append-assoc}
+use mathlib.Core.Option.{Option, none, some, Option·map}
 use Prim.Native.Nat.{ℕ, suc, _+_, _≤_, _<_}
+use Prim.Native.String.{String}
 use native.Mathlib.Numerals.{add-one}
 use native.Mathlib.Omega.{arith}
-use borrow.Author.Tests.{eq-eqb, ne-eqb}
+use borrow.Author.Tests.{eq-eqb, eqb-true, ne-eqb, eqb-false, not-true}
 use lib.Dec.{eqb}
-use lib.ListN.{length, getD, drop, drop-of-length-le}
-use lib.Seq.{drop-cons, drop-nil}
-use Prim.Native.String.{String}
-use Rattle.card.specs.Text.{text, found, beginsWith, sameAs, valueOf, wordIn}
+use lib.ListN.{length, getD, drop, drop-of-length-le, length-append, length-drop}
+use lib.Seq.{drop-cons, drop-drop}
+use Rattle.card.specs.Text.{text, found, lineFeed, firstLine, behindFirst, behind, linesLength, beginsWith, sameAs, valueOf, valueAt, lineOf, wordIn}
+use Rattle.card.specs.Answers.{nextLine, feedless}
+use Rattle.card.proofs.OfTests.{both, split}
+use Rattle.card.proofs.OfLines.{behind-within}
 
 never : (x y : Bool) → false ≡ y → false ≡ (x && y)
 never x y e = sym (and-false x) ∙ ap (λ (z : Bool). x && z) e
@@ -40,7 +43,7 @@ too-short (k ∷ ks) [] h = refl
 too-short (k ∷ ks) (b ∷ t) h = never (eqb b k) (beginsWith ks t) (too-short ks t (omega arith))
 
 -- a text that begins with the key is no shorter
-pub begins-length : (key t : List ℕ) → beginsWith key t ≡ true → length key ≤ length t
+begins-length : (key t : List ℕ) → beginsWith key t ≡ true → length key ≤ length t
 unfolding beginsWith
 begins-length [] t e = omega arith
 begins-length (k ∷ ks) [] e = let z : _≡_ {A = ℕ} 0 1 = cc in absurd (omega arith)
@@ -50,48 +53,152 @@ begins-length (k ∷ ks) (b ∷ t) e = by (eqb b k) e (begins-length ks t)
     by true e h = let l = h e in omega arith
     by false e h = let z : _≡_ {A = ℕ} 0 1 = cc in absurd (omega arith)
 
--- ---- words
+-- a text that begins with the key is the key and a rest
+pub begins-text : (key t : List ℕ) → beginsWith key t ≡ true → t ≡ key ++ drop (length key) t
+unfolding beginsWith
+begins-text [] t h = refl
+begins-text (k ∷ key) [] h = let z : _≡_ {A = ℕ} 0 1 = cc in absurd (omega arith)
+begins-text (k ∷ key) (b ∷ t) h =
+    let w = both (eqb b k) (beginsWith key t) h in
+    ap₂ (λ (x : ℕ) (xs : List ℕ). x ∷ xs) (eqb-true b k (w .0)) (begins-text key t (w .1))
 
-pub lengths-differ : (t w : List ℕ) → (length t ≡ length w → ⊥) → false ≡ sameAs t w
-unfolding sameAs
-lengths-differ [] [] f = absurd (f refl)
-lengths-differ [] (y ∷ ys) f = refl
-lengths-differ (x ∷ xs) [] f = refl
-lengths-differ (x ∷ xs) (y ∷ ys) f = never (eqb x y) (sameAs xs ys) (lengths-differ xs ys (λ e. f (ap suc e)))
+-- ---- bytes without a line feed, at the front of a line
 
-pub same-begins : (t w : List ℕ) → length t ≡ length w → beginsWith w t ≡ sameAs t w
-unfolding beginsWith sameAs
-same-begins [] [] e = refl
-same-begins [] (y ∷ ys) e = absurd (omega arith)
-same-begins (x ∷ xs) [] e = absurd (omega arith)
-same-begins (x ∷ xs) (y ∷ ys) e = ap (λ (b : Bool). eqb x y && b) (same-begins xs ys (omega arith))
+-- a byte that is a line feed is none of them
+feed-other : (b k : ℕ) → not (eqb k lineFeed) ≡ true → eqb b lineFeed ≡ true → eqb b k ≡ false
+feed-other b k f e =
+    let g = eqb-false k lineFeed (not-true (eqb k lineFeed) f) in
+    ne-eqb b k (λ p. g (sym p ∙ eqb-true b lineFeed e))
 
--- ---- the value behind a key; a line that is missing is an empty one
+pub behind-joined : (l t : List ℕ) → feedless l ≡ true → behindFirst (l ++ t) ≡ behindFirst t
+unfolding behindFirst
+behind-joined [] t h = refl
+behind-joined (b ∷ l) t h =
+    let w = both (not (eqb b lineFeed)) (feedless l) h in
+    rw (not-true (eqb b lineFeed) (w .0), behind-joined l t (w .1))
 
-pub value-begun : (o : Option (List ℕ)) (key l : List ℕ) → l ≡ Option·getD o [] → beginsWith key l ≡ true → drop (length key) l ≡ Option·getD (found o (valueOf key)) []
-unfolding valueOf
-value-begun none key l e h = ap (drop (length key)) e ∙ drop-nil (length key)
-value-begun (some t) key l e h = rw (← e, h)
+-- the value of a line, by the bytes: the first line of what stands behind the key
+key-line : (key t : List ℕ) → feedless key ≡ true
+    → found (firstLine t) (valueOf key) ≡ cond (beginsWith key t) (firstLine (drop (length key) t)) none
+unfolding firstLine beginsWith valueOf
+key-line [] t f = by (firstLine t)
+  where
+    by : (o : Option (List ℕ)) → found o (λ l. some l) ≡ o
+    by none = refl
+    by (some l) = refl
+key-line (k ∷ key) [] f = refl
+key-line (k ∷ key) (b ∷ t) f =
+    let w = both (not (eqb k lineFeed)) (feedless key) f in
+    split (eqb b lineFeed) (λ e. ended (feed-other b k (w .0) e) e) (λ e. split (eqb b k) (more (key-line key t (w .1)) e) (other e))
+  where
+    Goal : Type 0
+    Goal = found (cond (eqb b lineFeed) (some []) (Option·map (λ l. b ∷ l) (firstLine t))) (valueOf (k ∷ key))
+        ≡ cond (eqb b k && beginsWith key t) (firstLine (drop (length key) t)) none
 
-pub value-other : (o : Option (List ℕ)) (key l : List ℕ) → l ≡ Option·getD o [] → beginsWith key l ≡ false → [] ≡ Option·getD (found o (valueOf key)) []
-unfolding valueOf
-value-other none key l e h = refl
-value-other (some t) key l e h = rw (← e, h)
+    ended : eqb b k ≡ false → eqb b lineFeed ≡ true → Goal
+    ended g e = rw (e, g)
 
--- a test that refuses the empty value needs not be told that there is none
-pub tested-empty : {A : Type 0} (o : Option (List ℕ)) (f : List ℕ → Option A) → f [] ≡ none → f (Option·getD o []) ≡ found o f
-tested-empty none f e = e
-tested-empty (some t) f e = refl
+    same : (o : Option (List ℕ)) → eqb b k ≡ true → found (Option·map (λ l. b ∷ l) o) (valueOf (k ∷ key)) ≡ found o (valueOf key)
+    same none g = refl
+    same (some l) g = rw g
 
--- ---- one word of a list after the other; no word of a card is empty
+    differs : (o : Option (List ℕ)) → eqb b k ≡ false → found (Option·map (λ l. b ∷ l) o) (valueOf (k ∷ key)) ≡ none
+    differs none g = refl
+    differs (some l) g = rw g
 
-pub word-line : {A : Type 0} (ws : List (String × A)) (o : Option (List ℕ)) (v : List ℕ) → wordIn ws [] ≡ none → v ≡ Option·getD o [] → wordIn ws v ≡ found o (wordIn ws)
-word-line ws o v h e = ap (wordIn ws) e ∙ tested-empty o (wordIn ws) h
+    more : found (firstLine t) (valueOf key) ≡ cond (beginsWith key t) (firstLine (drop (length key) t)) none
+        → eqb b lineFeed ≡ false → eqb b k ≡ true → Goal
+    more h e g = rw (e, same (firstLine t) g, g) h
 
-pub word-here : {A : Type 0} (w : String × A) (ws : List (String × A)) {b : Bool} (v : List ℕ) → b ≡ sameAs v (text (w .0)) → b ≡ true → some (w .1) ≡ wordIn (w ∷ ws) v
+    other : eqb b lineFeed ≡ false → eqb b k ≡ false → Goal
+    other e g = rw (e, differs (firstLine t) g, g)
+
+-- a word is the first line exactly if the bytes begin with the word and a line feed
+abbrev isLine : List ℕ → Option (List ℕ) → Bool
+isLine w none = false
+isLine w (some l) = sameAs l w
+
+word-line : (w t : List ℕ) → feedless w ≡ true → beginsWith (w ++ (lineFeed ∷ [])) t ≡ isLine w (firstLine t)
+unfolding firstLine beginsWith sameAs
+word-line [] [] f = refl
+word-line [] (b ∷ t) f = by (eqb b lineFeed) (firstLine t)
+  where
+    by : (x : Bool) (o : Option (List ℕ)) → (x && true) ≡ isLine [] (cond x (some []) (Option·map (λ l. b ∷ l) o))
+    by true o = refl
+    by false none = refl
+    by false (some l) = refl
+word-line (k ∷ w) [] f = refl
+word-line (k ∷ w) (b ∷ t) f =
+    let v = both (not (eqb k lineFeed)) (feedless w) f in
+    split (eqb b lineFeed) (λ e. ended (feed-other b k (v .0) e) e) (more (word-line w t (v .1)))
+  where
+    Goal : Type 0
+    Goal = (eqb b k && beginsWith (w ++ (lineFeed ∷ [])) t) ≡ isLine (k ∷ w) (cond (eqb b lineFeed) (some []) (Option·map (λ l. b ∷ l) (firstLine t)))
+
+    ended : eqb b k ≡ false → eqb b lineFeed ≡ true → Goal
+    ended g e = rw (e, g)
+
+    by : (o : Option (List ℕ)) → (eqb b k && isLine w o) ≡ isLine (k ∷ w) (Option·map (λ l. b ∷ l) o)
+    by none = and-false (eqb b k)
+    by (some l) = refl
+
+    more : beginsWith (w ++ (lineFeed ∷ [])) t ≡ isLine w (firstLine t) → eqb b lineFeed ≡ false → Goal
+    more h e = rw (e, h) (by (firstLine t))
+
+-- a word of a list, with its line feed
+abbrev pub ended : {A : Type 0} → String × A → List ℕ
+ended w = text (w .0) ++ (lineFeed ∷ [])
+
+word-first : {A : Type 0} (w : String × A) (ws : List (String × A)) (t : List ℕ) → feedless (text (w .0)) ≡ true
+    → found (firstLine t) (wordIn (w ∷ ws)) ≡ cond (beginsWith (ended w) t) (some (w .1)) (found (firstLine t) (wordIn ws))
 unfolding wordIn
-word-here w ws v e h = sym (rw (sym e ∙ h))
+word-first {A} w ws t f = rw (word-line (text (w .0)) t f) (by (firstLine t))
+  where
+    by : (o : Option (List ℕ)) → found o (wordIn (w ∷ ws)) ≡ cond (isLine (text (w .0)) o) (some (w .1)) (found o (wordIn ws))
+    by none = refl
+    by (some l) = refl
 
-pub word-later : {A : Type 0} (w : String × A) (ws : List (String × A)) {b : Bool} {o : Option A} (v : List ℕ) → b ≡ sameAs v (text (w .0)) → b ≡ false → o ≡ wordIn ws v → o ≡ wordIn (w ∷ ws) v
-unfolding wordIn
-word-later w ws v e h k = k ∙ sym (rw (sym e ∙ h))
+-- ---- a line that starts at a place, with its key
+
+module _ (s key : List ℕ) (start : ℕ) (f : feedless key ≡ true) where
+  pub no-value : beginsWith key (drop start s) ≡ false → valueAt 1 key (drop start s) ≡ none
+  unfolding valueAt lineOf behind
+  no-value b = key-line key (drop start s) f ∙ rw b
+
+  -- its value stands behind the key, and the next line starts where it does for what starts there
+  module _ (value : ℕ) (h : start ≤ length s) (b : beginsWith key (drop start s) ≡ true) (p : value ≡ start + length key) where
+    pub value-within : value ≤ length s
+    value-within = omega (arith, begins-length key (drop start s) b, length-drop start s)
+
+    value-drop : drop (length key) (drop start s) ≡ drop value s
+    value-drop = drop-drop (length key) start s ∙ sym (ap (λ n. drop n s) p)
+
+    pub value-line : valueAt 1 key (drop start s) ≡ firstLine (drop value s)
+    unfolding valueAt lineOf behind
+    value-line = key-line key (drop start s) f ∙ rw b (ap firstLine value-drop)
+
+    pub value-next : nextLine s value ≡ nextLine s start
+    unfolding linesLength behind
+    value-next =
+        let t = drop value s in
+        let e : drop start s ≡ key ++ t = begins-text key (drop start s) b ∙ ap (λ u. key ++ u) value-drop in
+        let l : length (behindFirst (drop start s)) ≡ length (behindFirst t) = ap length (ap behindFirst e ∙ behind-joined key t f) in
+        omega (arith, ap length e, length-append key t, behind-within t)
+
+-- ---- one word of a list after the other, at a place
+
+module _ {A : Type 0} (w : String × A) (ws : List (String × A)) (s : List ℕ) (value : ℕ) (f : feedless (text (w .0)) ≡ true) where
+  pub word-here : beginsWith (ended w) (drop value s) ≡ true → found (firstLine (drop value s)) (wordIn (w ∷ ws)) ≡ some (w .1)
+  word-here b = word-first w ws (drop value s) f ∙ rw b
+
+  pub word-later : beginsWith (ended w) (drop value s) ≡ false
+      → found (firstLine (drop value s)) (wordIn (w ∷ ws)) ≡ found (firstLine (drop value s)) (wordIn ws)
+  word-later b = word-first w ws (drop value s) f ∙ rw b
+
+  pub word-next : beginsWith (ended w) (drop value s) ≡ true → value + length (ended w) ≡ nextLine s value
+  unfolding linesLength behind behindFirst
+  word-next b =
+      let t = drop (length (ended w)) (drop value s) in
+      let e : drop value s ≡ text (w .0) ++ (lineFeed ∷ t) = begins-text (ended w) (drop value s) b ∙ append-assoc (text (w .0)) (lineFeed ∷ []) t in
+      let l : length (behindFirst (drop value s)) ≡ length t = ap length (ap behindFirst e ∙ behind-joined (text (w .0)) (lineFeed ∷ t) f) in
+      omega (arith, ap length e, length-append (text (w .0)) (lineFeed ∷ t), length-append (text (w .0)) (lineFeed ∷ []))

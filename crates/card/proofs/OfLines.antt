@@ -2,23 +2,41 @@
 use mathlib.Core.Path.{_≡_, refl, ap, sym, _∙_}
 use mathlib.Core.Bool.{Bool, true, false, cond}
 use mathlib.Core.List.{List, [], _∷_}
-use mathlib.Core.Option.{none, some, Option·map, Option·getD}
-use Prim.Native.Nat.{ℕ, zero, suc, pred, _+_, _-_, _≤_, _<_}
+use mathlib.Core.Option.{Option, none, some, Option·map}
+use Prim.Native.Nat.{ℕ, zero, suc, _+_, _-_, _≤_, _<_}
 use native.Mathlib.Nat.{zero-add}
 use native.Mathlib.Numerals.{add-one}
 use native.Mathlib.Omega.{arith}
-use borrow.Author.Tests.{eq-eqb, ne-eqb}
+use borrow.Author.Tests.{eq-eqb, ne-eqb, eqb-true, eqb-false}
 use lib.Dec.{eqb}
-use lib.ListN.{length, getD, take, drop, length-drop, drop-of-length-le}
-use lib.Seq.{drop-cons, drop-drop, drop-length, take-all}
-use Rattle.card.specs.Text.{lineFeed, firstLine, behindFirst, behind, lineOf, linesLength}
-use Rattle.card.specs.Answers.{lineEnd}
+use lib.ListN.{length, getD, take, drop, length-drop}
+use lib.Seq.{drop-cons, drop-drop, take-all, length-take-le, getD-take}
+use Rattle.card.specs.Text.{found, lineFeed, firstLine, behindFirst, behind, linesLength, lineOf, valueOf, valueAt}
+use Rattle.card.specs.Answers.{nextLine}
+use Rattle.card.proofs.OfTests.{split}
 
--- a part from n to the end is what stands behind n
-pub rest : (n : ℕ) (l : List ℕ) → take (length l - n) (drop n l) ≡ drop n l
+-- the bytes from a place to the end, as a part of them that the code takes
+abbrev pub part : List ℕ → ℕ → List ℕ
+part l n = take (length l - n) (drop n l)
+
+pub rest : (n : ℕ) (l : List ℕ) → part l n ≡ drop n l
 rest n l = take-all (length l - n) (drop n l) (omega (arith, length-drop n l))
 
 -- ---- the end of the first line
+
+-- how many bytes stand before the first line feed; all where there is none
+unfoldable pub lineEnd : List ℕ → ℕ
+lineEnd [] = 0
+lineEnd (b ∷ t) = cond (eqb b lineFeed) 0 (suc (lineEnd t))
+
+end-within : (t : List ℕ) → lineEnd t ≤ length t
+unfolding lineEnd
+end-within [] = omega arith
+end-within (b ∷ t) = by (eqb b lineFeed) (end-within t)
+  where
+    by : (x : Bool) → lineEnd t ≤ length t → cond x 0 (suc (lineEnd t)) ≤ suc (length t)
+    by true h = omega arith
+    by false h = omega arith
 
 -- no line feed stands before i
 abbrev pub Passed : List ℕ → ℕ → Type 0
@@ -31,18 +49,14 @@ pub passed-more : (t : List ℕ) (i : ℕ) → i < length t → (getD t i 0 ≡ 
 unfolding lineEnd
 passed-more t i h e w = w ∙ rw (drop-cons t i 0, ne-eqb (getD t i 0) lineFeed e, add-one) (omega arith)
 
-pub passed-here : (t : List ℕ) (i : ℕ) → i < length t → getD t i 0 ≡ lineFeed → Passed t i → i ≡ lineEnd t
+passed-here : (t : List ℕ) (i : ℕ) → i < length t → getD t i 0 ≡ lineFeed → Passed t i → i ≡ lineEnd t
 unfolding lineEnd
 passed-here t i h e w = sym (w ∙ rw (drop-cons t i 0, eq-eqb (getD t i 0) lineFeed e) (omega arith))
-
-pub passed-all : (t : List ℕ) (i : ℕ) → length t ≤ i → Passed t i → i ≡ lineEnd t
-unfolding lineEnd
-passed-all t i h w = sym (w ∙ rw (drop-of-length-le t h) (omega arith))
 
 -- ---- the first line, and what stands behind it
 
 -- no line feed: no line
-pub first-none : (t : List ℕ) → lineEnd t ≡ length t → firstLine t ≡ none
+first-none : (t : List ℕ) → lineEnd t ≡ length t → firstLine t ≡ none
 unfolding lineEnd firstLine
 first-none [] e = refl
 first-none (b ∷ t) e = by (eqb b lineFeed) e (first-none t)
@@ -52,17 +66,32 @@ first-none (b ∷ t) e = by (eqb b lineFeed) e (first-none t)
     by false e h = ap (Option·map (λ (l : List ℕ). b ∷ l)) (h (omega arith))
 
 -- a line feed: the line is what stands before it
-pub first-some : (t : List ℕ) → (lineEnd t ≡ length t → ⊥) → firstLine t ≡ some (take (lineEnd t) t)
+abbrev pub lineIn : List ℕ → List ℕ
+lineIn t = take (lineEnd t) t
+
+first-some : (t : List ℕ) → (lineEnd t ≡ length t → ⊥) → firstLine t ≡ some (lineIn t)
 unfolding lineEnd firstLine
 first-some [] e = absurd (e refl)
 first-some (b ∷ t) e = by (eqb b lineFeed) e (first-some t)
   where
-    by : (x : Bool) → (cond x 0 (suc (lineEnd t)) ≡ suc (length t) → ⊥) → ((lineEnd t ≡ length t → ⊥) → firstLine t ≡ some (take (lineEnd t) t))
+    by : (x : Bool) → (cond x 0 (suc (lineEnd t)) ≡ suc (length t) → ⊥) → ((lineEnd t ≡ length t → ⊥) → firstLine t ≡ some (lineIn t))
         → cond x (some []) (Option·map (λ l. b ∷ l) (firstLine t)) ≡ some (take (cond x 0 (suc (lineEnd t))) (b ∷ t))
     by true e h = refl
     by false e h = ap (Option·map (λ (l : List ℕ). b ∷ l)) (h (λ p. e (ap suc p)))
 
-pub behind-end : (t : List ℕ) → behindFirst t ≡ drop (lineEnd t + 1) t
+-- what refuses the line refuses it too where no line feed ends it
+pub line-refused : {A : Type 0} (t : List ℕ) (f : List ℕ → Option A) → f (lineIn t) ≡ none → found (firstLine t) f ≡ none
+line-refused t f e =
+    split (eqb (lineEnd t) (length t))
+    (λ h. ap (λ o. found o f) (first-none t (eqb-true (lineEnd t) (length t) h)))
+    (λ h. ap (λ o. found o f) (first-some t (eqb-false (lineEnd t) (length t) h)) ∙ e)
+
+pub line-missing : {A : Type 0} (t : List ℕ) (i : ℕ) (f : List ℕ → Option A) → length t ≤ i → Passed t i → found (firstLine t) f ≡ none
+line-missing t i f h w =
+    let e : lineEnd t ≡ length t = omega (arith, end-within t) in
+    ap (λ o. found o f) (first-none t e)
+
+behind-end : (t : List ℕ) → behindFirst t ≡ drop (lineEnd t + 1) t
 unfolding lineEnd behindFirst
 behind-end [] = refl
 behind-end (b ∷ t) = by (eqb b lineFeed) (behind-end t)
@@ -71,38 +100,31 @@ behind-end (b ∷ t) = by (eqb b lineFeed) (behind-end t)
     by true h = refl
     by false h = h ∙ rw (add-one (lineEnd t), add-one (suc (lineEnd t)))
 
--- the first line as a slice: empty where there is none
-module _ (t : List ℕ) (e : ℕ) (p : e ≡ lineEnd t) where
-  pub slice-none : e ≡ length t → [] ≡ Option·getD (firstLine t) []
-  slice-none q = sym (ap (λ o. Option·getD o []) (first-none t (sym p ∙ q)))
+pub behind-within : (t : List ℕ) → length (behindFirst t) ≤ length t
+behind-within t = omega (arith, ap length (behind-end t), length-drop (lineEnd t + 1) t)
 
-  pub slice-some : (e ≡ length t → ⊥) → take e t ≡ Option·getD (firstLine t) []
-  slice-some q = ap (λ n. take n t) p ∙ sym (ap (λ o. Option·getD o []) (first-some t (λ r. q (p ∙ r))))
+-- a byte before which no line feed stands: one of the line, or the line feed that ends it
+module _ (t : List ℕ) (i : ℕ) (h : i < length t) (w : Passed t i) where
+  pub byte-inside : (getD t i 0 ≡ lineFeed → ⊥) → i < length (lineIn t)
+  byte-inside e = omega (arith, passed-more t i h e w, length-take-le (lineEnd t) t (end-within t))
+
+  pub byte-same : (getD t i 0 ≡ lineFeed → ⊥) → getD (lineIn t) i 0 ≡ getD t i 0
+  byte-same e = getD-take (lineEnd t) t i 0 (omega (arith, passed-more t i h e w))
+
+  pub feed-line : getD t i 0 ≡ lineFeed → take i t ≡ lineIn t
+  feed-line e = ap (λ n. take n t) (passed-here t i h e w)
+
+  pub feed-length : getD t i 0 ≡ lineFeed → length (lineIn t) ≡ i
+  feed-length e = length-take-le (lineEnd t) t (end-within t) ∙ sym (passed-here t i h e w)
+
+  pub feed-found : {A : Type 0} (f : List ℕ → Option A) → getD t i 0 ≡ lineFeed → found (firstLine t) f ≡ f (lineIn t)
+  feed-found f e = ap (λ o. found o f) (first-some t (λ p. (omega (arith, passed-here t i h e w))))
+
+  pub feed-next : getD t i 0 ≡ lineFeed → i + 1 ≡ linesLength 1 t
+  unfolding linesLength behind
+  feed-next e = omega (arith, passed-here t i h e w, ap length (behind-end t), length-drop (lineEnd t + 1) t)
 
 -- ---- one line after the other
-
--- the line behind the one that starts at k, which ends at e
-module _ (s : List ℕ) (k e : ℕ) (h : k ≤ length s) (p : e ≡ lineEnd (take (length s - k) (drop k s))) where
-  end-is : e ≡ lineEnd (drop k s)
-  end-is = p ∙ ap lineEnd (rest k s)
-
-  next-is : drop (k + (e + 1)) s ≡ behindFirst (drop k s)
-  next-is = sym (behind-end (drop k s) ∙ ap (λ n. drop (n + 1) (drop k s)) (sym end-is) ∙ drop-drop (e + 1) k s)
-
-  pub next-none : e ≡ length (take (length s - k) (drop k s)) → drop (length s) s ≡ behindFirst (drop k s)
-  next-none q =
-      let l : length s ≤ k + (e + 1) = omega (arith, ap length (rest k s), length-drop k s) in
-      drop-length s ∙ sym (drop-of-length-le s l) ∙ next-is
-
-  pub next-some : drop (k + e + 1) s ≡ behindFirst (drop k s)
-  next-some = let f : k + e + 1 ≡ k + (e + 1) = omega arith in ap (λ n. drop n s) f ∙ next-is
-
--- one line more stands before r than before k
-pub lines-next : (s : List ℕ) (k r line : ℕ) → 1 ≤ line → drop k s ≡ behind (pred line) s → drop r s ≡ behindFirst (drop k s) → drop r s ≡ behind (pred (line + 1)) s
-unfolding behind
-lines-next s k r line h p q =
-    let e : pred (line + 1) ≡ suc (pred line) = omega arith in
-    q ∙ ap behindFirst p ∙ sym (ap (λ n. behind n s) e)
 
 -- what stands behind n lines is a part of the bytes, up to their end
 behind-drop : (n : ℕ) (s : List ℕ) → (k : ℕ) × (behind n s ≡ drop k s)
@@ -131,6 +153,10 @@ lines-behind n s =
     let w = behind-drop n s in
     ap (λ (u : List ℕ). drop (length s - length u) s) (w .1) ∙ by-length (w .0) s ∙ sym (w .1)
 
+pub lines-none : (s : List ℕ) → 0 ≡ linesLength 0 s
+unfolding linesLength behind
+lines-none s = omega arith
+
 pub lines-within : (n : ℕ) (s : List ℕ) → linesLength n s ≤ length s
 unfolding linesLength
 lines-within n s = omega arith
@@ -140,8 +166,23 @@ pub lines-place : (n k : ℕ) (s : List ℕ) → k ≤ length s → drop k s ≡
 unfolding linesLength
 lines-place n k s h e = omega (arith, length-drop k s, ap length e)
 
--- the first line of what starts at line n is line n
-pub line-at : (s : List ℕ) (n k : ℕ) (l : List ℕ) → k ≡ linesLength (pred n) s → l ≡ Option·getD (firstLine (take (length s - k) (drop k s))) [] → l ≡ Option·getD (lineOf n s) []
-unfolding lineOf
-line-at s n k l p q =
-    q ∙ ap (λ (u : List ℕ). Option·getD (firstLine u) []) (rest k s ∙ ap (λ (i : ℕ). drop i s) p ∙ lines-behind (pred n) s)
+-- ---- the line that starts behind n lines
+
+module _ (s : List ℕ) (n start : ℕ) (at : start ≡ linesLength n s) where
+  pub start-within : start ≤ length s
+  start-within = omega (arith, at, lines-within n s)
+
+  start-behind : drop start s ≡ behind n s
+  start-behind = ap (λ k. drop k s) at ∙ lines-behind n s
+
+  -- it is line n + 1, as it is line 1 of what starts there
+  pub start-value : (key : List ℕ) → valueAt 1 key (drop start s) ≡ valueAt (suc n) key s
+  unfolding valueAt lineOf behind
+  start-value key = ap (λ u. found (firstLine u) (valueOf key)) start-behind
+
+  pub start-next : nextLine s start ≡ linesLength (suc n) s
+  unfolding linesLength behind
+  start-next =
+      let e : length (drop start s) ≡ length (behind n s) = ap length start-behind in
+      let f : length (behindFirst (drop start s)) ≡ length (behindFirst (behind n s)) = ap (λ u. length (behindFirst u)) start-behind in
+      omega (arith, at, length-drop start s, behind-within (behind n s))

@@ -1,95 +1,50 @@
--- Decimal numbers: read one digit after the other, and refused as soon as they are above a limit. Assumes nothing.
+-- Decimal numbers: read one digit after the other up to a line feed, and refused as soon as they are above a limit. Assumes nothing.
 use mathlib.Core.Path.{_≡_, refl, ap, sym, _∙_}
-use mathlib.Core.Bool.{Bool, true, false, cond, and-false, and-true}
+use mathlib.Core.Bool.{Bool, true, false, cond, not, and-false, and-true}
 use mathlib.Core.List.{List, [], _∷_}
 use mathlib.Core.Option.{none, some}
-use Prim.Native.Nat.{ℕ, _+_, _-_, _*_, _^_, _≤_, _<_}
+use Prim.Native.Nat.{ℕ, zero, suc, _+_, _-_, _*_, _^_, _≤_, _<_}
 use native.Mathlib.Nat.{zero-add, add-zero, zero-mul, mul-one, add-mul, mul-assoc, add-assoc, pow-succ', one-le-pow, mul-le-mul-left}
 use native.Mathlib.Numerals.{add-one}
 use native.Mathlib.Omega.{arith}
-use borrow.Author.Tests.{eq-eqb, ne-eqb, le-leb, lt-leb}
-use lib.ListN.{length, getD, drop, drop-of-length-le}
+use borrow.Author.Tests.{le-leb, lt-leb}
+use lib.Dec.{eqb}
+use lib.ListN.{length, getD, take, drop, drop-of-length-le}
 use lib.Seq.{drop-cons}
-use Rattle.card.specs.Text.{found, isDigit, allDigits, isDecimal, digitsValue, numberOf, numberIn, from_to_}
-use Rattle.card.specs.Answers.{figureRead}
+use Rattle.card.specs.Text.{found, lineFeed, firstLine, linesLength, isDigit, allDigits, isDecimal, digitsValue, numberOf, numberIn, from_to_}
+use Rattle.card.specs.Answers.{nextLine, wellFormed, figureRead}
 use Rattle.card.specs.declared.text.Figure.the-variants.{Is, Wrong}
+use Rattle.card.proofs.OfLines.{part, rest, Passed, passed-none, passed-more, lineIn, line-refused, line-missing, byte-inside, byte-same, feed-line, feed-length, feed-found, feed-next}
 
--- ---- the first digit
+-- ---- what digits are
 
-pub empty-refused : (t : List ℕ) → length t ≡ 0 → isDecimal t ≡ false
-unfolding isDecimal
-empty-refused [] e = refl
-empty-refused (b ∷ t) e = absurd (omega arith)
-
-pub zero-refused : (t : List ℕ) → getD t 0 0 ≡ 48 → (length t ≡ 1 → ⊥) → isDecimal t ≡ false
-unfolding isDecimal
-zero-refused [] e f = refl
-zero-refused (b ∷ []) e f = absurd (f refl)
-zero-refused (b ∷ d ∷ t) e f = rw (eq-eqb b 48 e)
-
-pub one-digit : (t : List ℕ) → length t ≡ 1 → isDecimal t ≡ allDigits t
+not-digits : (t : List ℕ) → allDigits t ≡ false → isDecimal t ≡ false
 unfolding isDecimal allDigits
-one-digit [] e = absurd (omega arith)
-one-digit (b ∷ []) e = sym (and-true (isDigit b))
-one-digit (b ∷ d ∷ t) e = absurd (omega arith)
+not-digits [] h = refl
+not-digits (b ∷ []) h = sym (and-true (isDigit b)) ∙ h
+not-digits (b ∷ c ∷ t) h = rw (h, and-false)
 
-pub no-zero : (t : List ℕ) → (length t ≡ 0 → ⊥) → (getD t 0 0 ≡ 48 → ⊥) → isDecimal t ≡ allDigits t
+all-formed : (t : List ℕ) → allDigits t ≡ true → isDecimal t ≡ wellFormed t
 unfolding isDecimal allDigits
-no-zero [] f e = absurd (f refl)
-no-zero (b ∷ []) f e = sym (and-true (isDigit b))
-no-zero (b ∷ d ∷ t) f e = rw (ne-eqb b 48 e)
+all-formed [] h = refl
+all-formed (b ∷ []) h = sym (and-true (isDigit b)) ∙ h
+all-formed (b ∷ c ∷ t) h = rw (h, and-true)
 
--- ---- one digit after the other
+-- the same by how many they are
+pub formed-one : (t : List ℕ) (i : ℕ) → i ≤ length t → i ≡ 1 → true ≡ wellFormed (take i t)
+formed-one [] i h e = absurd (omega arith)
+formed-one (b ∷ t) i h e = ap (λ n. wellFormed (take n (b ∷ t))) (sym e)
 
--- the i bytes passed are digits, and stand for n
-pub record Counted (t : List ℕ) (n i : ℕ) : Type 0 where
-  pub decimal : isDecimal t ≡ allDigits (drop i t)
-  pub counted : digitsValue t ≡ n * 10 ^ length (drop i t) + digitsValue (drop i t)
-
-pub counted-none : (t : List ℕ) → isDecimal t ≡ allDigits t → Counted t 0 0
-counted-none t e =
-    record {
-      decimal = e;
-      counted = sym (ap (λ (x : ℕ). x + digitsValue t) (zero-mul (10 ^ length t)) ∙ zero-add (digitsValue t));
-    }
-
-module _ (t : List ℕ) (n i : ℕ) (h : i < length t) (w : Counted t n i) where
-  digit : drop i t ≡ getD t i 0 ∷ drop (i + 1) t
-  digit = rw (add-one) (drop-cons t i 0 h)
-
-  pub counted-low : getD t i 0 < 48 → isDecimal t ≡ false
-  unfolding allDigits
-  counted-low l = w .decimal ∙ rw (digit, lt-leb 48 (getD t i 0) l)
-
-  pub counted-high : 57 < getD t i 0 → isDecimal t ≡ false
-  unfolding allDigits
-  counted-high l = w .decimal ∙ rw (digit, lt-leb (getD t i 0) 57 l, and-false)
-
-  pub counted-more : 48 ≤ getD t i 0 → getD t i 0 ≤ 57 → Counted t (n * 10 + (getD t i 0 - 48)) (i + 1)
-  unfolding allDigits digitsValue
-  counted-more l m =
-      let d = getD t i 0 - 48 in
-      let u = drop (i + 1) t in
-      let p = 10 ^ length u in
-      record {
-        decimal = w .decimal ∙ rw (digit, le-leb 48 (getD t i 0) l, le-leb (getD t i 0) 57 m);
-        counted =
-            w .counted
-            ∙ ap (λ (x : List ℕ). n * 10 ^ length x + digitsValue x) digit
-            ∙ ap (λ (x : ℕ). n * x + (d * p + digitsValue u)) (pow-succ' 10 (length u))
-            ∙ ap (λ (x : ℕ). x + (d * p + digitsValue u)) (sym (mul-assoc n 10 p))
-            ∙ sym (add-assoc (n * 10 * p) (d * p) (digitsValue u))
-            ∙ ap (λ (x : ℕ). x + digitsValue u) (sym (add-mul (n * 10) d p));
-      }
-
--- ---- what the text is
+pub formed-several : (t : List ℕ) (i : ℕ) → i ≤ length t → (i ≡ 0 → ⊥) → (i ≡ 1 → ⊥) → not (eqb (getD t 0 0) 48) ≡ wellFormed (take i t)
+formed-several t zero h e f = absurd (e refl)
+formed-several t (suc zero) h e f = absurd (f refl)
+formed-several [] (suc (suc i)) h e f = absurd (omega arith)
+formed-several (b ∷ []) (suc (suc i)) h e f = absurd (omega arith)
+formed-several (b ∷ c ∷ t) (suc (suc i)) h e f = refl
 
 refused : (t : List ℕ) (allowed : ℕ → Bool) → isDecimal t ≡ false → numberIn allowed t ≡ none
 unfolding numberIn numberOf
 refused t allowed e = rw e
-
-pub wrong : (t : List ℕ) (allowed : ℕ → Bool) → isDecimal t ≡ false → Wrong ≡ figureRead (numberIn allowed t)
-wrong t allowed e = sym (ap figureRead (refused t allowed e))
 
 not-allowed : (t : List ℕ) (allowed : ℕ → Bool) → allowed (digitsValue t) ≡ false → numberIn allowed t ≡ none
 unfolding numberIn numberOf
@@ -99,27 +54,144 @@ not-allowed t allowed e = by (isDecimal t)
     by true = rw e
     by false = refl
 
+-- ---- one digit after the other
+
+-- the i bytes passed are digits, and stand for n
+pub record Counted (t : List ℕ) (n i : ℕ) : Type 0 where
+  pub digits : allDigits t ≡ allDigits (drop i t)
+  pub counted : digitsValue t ≡ n * 10 ^ length (drop i t) + digitsValue (drop i t)
+
+counted-none : (t : List ℕ) → Counted t 0 0
+counted-none t =
+    record {
+      digits = refl;
+      counted = sym (ap (λ (x : ℕ). x + digitsValue t) (zero-mul (10 ^ length t)) ∙ zero-add (digitsValue t));
+    }
+
+module _ (t : List ℕ) (n i : ℕ) (h : i < length t) (w : Counted t n i) where
+  digit : drop i t ≡ getD t i 0 ∷ drop (i + 1) t
+  digit = rw (add-one) (drop-cons t i 0 h)
+
+  counted-low : getD t i 0 < 48 → allDigits t ≡ false
+  unfolding allDigits
+  counted-low l = w .digits ∙ rw (digit, lt-leb 48 (getD t i 0) l)
+
+  counted-high : 57 < getD t i 0 → allDigits t ≡ false
+  unfolding allDigits
+  counted-high l = w .digits ∙ rw (digit, lt-leb (getD t i 0) 57 l, and-false)
+
+  counted-more : 48 ≤ getD t i 0 → getD t i 0 ≤ 57 → Counted t (n * 10 + (getD t i 0 - 48)) (i + 1)
+  unfolding allDigits digitsValue
+  counted-more l m =
+      let d = getD t i 0 - 48 in
+      let u = drop (i + 1) t in
+      let p = 10 ^ length u in
+      record {
+        digits = w .digits ∙ rw (digit, le-leb 48 (getD t i 0) l, le-leb (getD t i 0) 57 m);
+        counted =
+            w .counted
+            ∙ ap (λ (x : List ℕ). n * 10 ^ length x + digitsValue x) digit
+            ∙ ap (λ (x : ℕ). n * x + (d * p + digitsValue u)) (pow-succ' 10 (length u))
+            ∙ ap (λ (x : ℕ). x + (d * p + digitsValue u)) (sym (mul-assoc n 10 p))
+            ∙ sym (add-assoc (n * 10 * p) (d * p) (digitsValue u))
+            ∙ ap (λ (x : ℕ). x + digitsValue u) (sym (add-mul (n * 10) d p));
+      }
+
 -- past the highest no further digit helps
-pub over : (t : List ℕ) (n i low high : ℕ) → high < n → Counted t n i → Wrong ≡ figureRead (numberIn (from low to high) t)
-over t n i low high h w =
+counted-over : (t : List ℕ) (n i low high : ℕ) → high < n → Counted t n i → numberIn (from low to high) t ≡ none
+counted-over t n i low high h w =
     let u = drop i t in
     let p : 1 ≤ 10 ^ length u = one-le-pow (length u) 10 (omega arith) in
     let q : n * 1 ≤ n * 10 ^ length u = mul-le-mul-left n p in
     let v : high < digitsValue t = omega (arith, w .counted, mul-one n) in
-    sym (ap figureRead (not-allowed t (from low to high) (rw (lt-leb (digitsValue t) high v, and-false))))
+    not-allowed t (from low to high) (rw (lt-leb (digitsValue t) high v, and-false))
 
-module _ (t : List ℕ) (n i low high : ℕ) (h : length t ≤ i) (w : Counted t n i) where
-  all-read : (isDecimal t ≡ true) × (digitsValue t ≡ n)
-  unfolding allDigits digitsValue
-  all-read =
-      let e : drop i t ≡ [] = drop-of-length-le t h in (
-        w .decimal ∙ ap allDigits e,
-        w .counted ∙ ap (λ (x : List ℕ). n * 10 ^ length x + digitsValue x) e ∙ add-zero (n * 1) ∙ mul-one n,
-      )
+counted-all : (t : List ℕ) (n i : ℕ) → length t ≤ i → Counted t n i → (allDigits t ≡ true) × (digitsValue t ≡ n)
+unfolding allDigits digitsValue
+counted-all t n i h w =
+    let e : drop i t ≡ [] = drop-of-length-le t h in (
+      w .digits ∙ ap allDigits e,
+      w .counted ∙ ap (λ (x : List ℕ). n * 10 ^ length x + digitsValue x) e ∙ add-zero (n * 1) ∙ mul-one n,
+    )
 
-  pub under : n < low → Wrong ≡ figureRead (numberIn (from low to high) t)
-  under l = sym (ap figureRead (not-allowed t (from low to high) (rw (all-read .1, lt-leb low n l))))
+-- ---- the number that a line is
 
-  pub between : low ≤ n → n ≤ high → Is n ≡ figureRead (numberIn (from low to high) t)
-  unfolding numberIn numberOf
-  between l m = sym (rw (all-read .0, all-read .1, le-leb low n l, le-leb n high m))
+-- no line feed was passed, and the i bytes passed are digits of the line
+pub record Reading (t : List ℕ) (n i : ℕ) : Type 0 where
+  pub passed : Passed t i
+  pub counted : Counted (lineIn t) n i
+
+pub reading-none : (t : List ℕ) → Reading t 0 0
+reading-none t = record { passed = passed-none t; counted = counted-none (lineIn t) }
+
+module _ (t : List ℕ) (n i : ℕ) (w : Reading t n i) where
+  -- a byte that is no line feed is one of the line
+  module _ (h : i < length t) (e : getD t i 0 ≡ lineFeed → ⊥) where
+    inside : i < length (lineIn t)
+    inside = byte-inside t i h (w .passed) e
+
+    same : getD (lineIn t) i 0 ≡ getD t i 0
+    same = byte-same t i h (w .passed) e
+
+    pub reading-more : 48 ≤ getD t i 0 → getD t i 0 ≤ 57 → Reading t (n * 10 + (getD t i 0 - 48)) (i + 1)
+    reading-more l m =
+        record {
+          passed = passed-more t i h e (w .passed);
+          counted = rw (← same) (counted-more (lineIn t) n i inside (w .counted) (omega (arith, same)) (omega (arith, same)));
+        }
+
+    not-digit : allDigits (lineIn t) ≡ false → (low high : ℕ) → found (firstLine t) (numberIn (from low to high)) ≡ none
+    not-digit d low high = line-refused t (numberIn (from low to high)) (refused (lineIn t) (from low to high) (not-digits (lineIn t) d))
+
+    pub reading-low : (low high : ℕ) → getD t i 0 < 48 → found (firstLine t) (numberIn (from low to high)) ≡ none
+    reading-low low high l = not-digit (counted-low (lineIn t) n i inside (w .counted) (omega (arith, same))) low high
+
+    pub reading-high : (low high : ℕ) → 57 < getD t i 0 → found (firstLine t) (numberIn (from low to high)) ≡ none
+    reading-high low high l = not-digit (counted-high (lineIn t) n i inside (w .counted) (omega (arith, same))) low high
+
+  -- the line feed ends the line
+  module _ (h : i < length t) (e : getD t i 0 ≡ lineFeed) where
+    all-read : (allDigits (lineIn t) ≡ true) × (digitsValue (lineIn t) ≡ n)
+    all-read = counted-all (lineIn t) n i (omega (arith, feed-length t i h (w .passed) e)) (w .counted)
+
+    formed : isDecimal (lineIn t) ≡ wellFormed (take i t)
+    formed = all-formed (lineIn t) (all-read .0) ∙ ap wellFormed (sym (feed-line t i h (w .passed) e))
+
+    pub reading-under : (low high : ℕ) → n < low → found (firstLine t) (numberIn (from low to high)) ≡ none
+    reading-under low high l =
+        line-refused t (numberIn (from low to high)) (not-allowed (lineIn t) (from low to high) (rw (all-read .1, lt-leb low n l)))
+
+    pub reading-malformed : (low high : ℕ) → wellFormed (take i t) ≡ false → found (firstLine t) (numberIn (from low to high)) ≡ none
+    reading-malformed low high f = line-refused t (numberIn (from low to high)) (refused (lineIn t) (from low to high) (formed ∙ f))
+
+    pub reading-right : (low high : ℕ) → wellFormed (take i t) ≡ true → low ≤ n → n ≤ high
+        → found (firstLine t) (numberIn (from low to high)) ≡ some n
+    unfolding numberIn numberOf
+    reading-right low high f l m =
+        feed-found t i h (w .passed) (numberIn (from low to high)) e
+        ∙ rw (formed ∙ f, all-read .1, le-leb low n l, le-leb n high m)
+
+    pub reading-next : i + 1 ≡ linesLength 1 t
+    reading-next = feed-next t i h (w .passed) e
+
+  pub reading-over : (low high : ℕ) → high < n → found (firstLine t) (numberIn (from low to high)) ≡ none
+  reading-over low high l = line-refused t (numberIn (from low to high)) (counted-over (lineIn t) n i low high l (w .counted))
+
+  pub reading-end : (low high : ℕ) → length t ≤ i → found (firstLine t) (numberIn (from low to high)) ≡ none
+  reading-end low high h = line-missing t i (numberIn (from low to high)) h (w .passed)
+
+-- ---- the same at a place of the bytes
+
+module _ (s : List ℕ) (start low high : ℕ) where
+  pub wrong : found (firstLine (part s start)) (numberIn (from low to high)) ≡ none
+      → Wrong ≡ figureRead (found (firstLine (drop start s)) (numberIn (from low to high))) (nextLine s start)
+  wrong e =
+      let f = ap (λ t. found (firstLine t) (numberIn (from low to high))) (sym (rest start s)) ∙ e in
+      sym (ap (λ o. figureRead o (nextLine s start)) f)
+
+  pub right : {n m : ℕ} → found (firstLine (part s start)) (numberIn (from low to high)) ≡ some n → m ≡ start + linesLength 1 (part s start)
+      → Is n m ≡ figureRead (found (firstLine (drop start s)) (numberIn (from low to high))) (nextLine s start)
+  right {n} {m} e l =
+      ap (λ k. Is n k) l
+      ∙ sym (ap (λ o. figureRead o (start + linesLength 1 (part s start))) e)
+      ∙ ap (λ t. figureRead (found (firstLine t) (numberIn (from low to high))) (start + linesLength 1 t)) (rest start s)

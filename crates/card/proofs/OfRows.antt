@@ -1,58 +1,167 @@
 -- The table's rows: what the code's answers stand for, and what is left of the card once some lines are right. Assumes nothing.
-use mathlib.Core.Path.{_≡_, refl, ap, _∙_}
+use mathlib.Core.Path.{_≡_, refl, ap, ap₂, sym, _∙_}
 use mathlib.Core.Bool.{Bool, true, false, cond, _&&_}
 use mathlib.Core.List.{List, [], _∷_}
-use mathlib.Core.Option.{Option, none, some, Option·getD}
-use Prim.Native.Nat.{ℕ}
+use mathlib.Core.Option.{Option, none, some}
+use Prim.Native.Nat.{ℕ, suc, _+_, _≤_}
+use Prim.Native.String.{String}
 use native.Mathlib.Omega.{arith}
-use Rattle.card.specs.Text.{found, linesLength, wordIn, numberOf, isDecimal, numberIn}
+use lib.ListN.{length, drop}
+use Rattle.card.specs.Text.{text, found, firstLine, linesLength, beginsWith, valueAt, wordIn, numberOf, numberIn}
 use Rattle.card.specs.Card.{kinds, builds, gprsAllowed, tempsAllowed, constsAllowed, stackAllowed, quadsAllowed, judged, line, _>>=_, cardWith, cardOf, firstNot, testOf}
-use Rattle.card.specs.Answers.{kindRead, buildRead, figureRead}
+use Rattle.card.specs.Answers.{nextLine, feedless, placeRead, kindRead, buildRead, figureRead}
 use Rattle.card.specs.declared.Kind.{Kind}
 use Rattle.card.specs.declared.Build.{Build}
 use Rattle.card.specs.declared.rows.KindRead.{KindRead}
 use Rattle.card.specs.declared.rows.KindRead.the-variants as kind
 use Rattle.card.specs.declared.rows.BuildRead.{BuildRead}
 use Rattle.card.specs.declared.rows.BuildRead.the-variants as build
+use Rattle.card.specs.declared.text.Place.{Place}
+use Rattle.card.specs.declared.text.Place.the-variants as place
 use Rattle.card.specs.declared.text.Figure.{Figure}
 use Rattle.card.specs.declared.text.Figure.the-variants as figure
 use Rattle.card.specs.declared.Card.{Card}
 use Rattle.card.specs.declared.CardRead.{CardRead}
 use Rattle.card.specs.declared.CardRead.the-variants.{Whole, BadLine}
 use Rattle.card.specs.declared.CardTest.the-variants as test
-use Rattle.card.proofs.OfKeys.{tested-empty}
+use Rattle.card.proofs.OfLines.{part, rest, start-within, start-value, start-next}
+use Rattle.card.proofs.OfKeys.{no-value, value-within, value-line, value-next, ended, word-here, word-later, word-next}
 
 -- ---- the code's answers, as what they stand for
 
-pub kind-is : (o : Option Kind) {r : KindRead} {k : Kind} → r ≡ kindRead o → r ≡ kind.Is k → o ≡ some k
+pub place-read : (s key : List ℕ) (start n : ℕ) {r x : Bool} → r ≡ beginsWith key (part s start) → r ≡ x
+    → placeRead x n ≡ placeRead (beginsWith key (drop start s)) n
+place-read s key start n p q = ap (λ b. placeRead b n) (sym q ∙ p ∙ ap (beginsWith key) (rest start s))
+
+place-at : (b : Bool) {r : Place} {m n : ℕ} → r ≡ placeRead b m → r ≡ place.At n → (b ≡ true) × (n ≡ m)
+place-at true p q = (refl, cc)
+place-at false p q = let z : _≡_ {A = ℕ} 0 1 = cc in absurd (omega arith)
+
+place-wrong : (b : Bool) (m : ℕ) {r : Place} → r ≡ placeRead b m → r ≡ place.Wrong → b ≡ false
+place-wrong true m p q = let z : _≡_ {A = ℕ} 0 1 = cc in absurd (omega arith)
+place-wrong false m p q = refl
+
+pub kind-is : (o : Option Kind) {r : KindRead} {m n : ℕ} {k : Kind} → r ≡ kindRead o m → r ≡ kind.Is k n → (o ≡ some k) × (n ≡ m)
 kind-is none p q = let z : _≡_ {A = ℕ} 0 1 = cc in absurd (omega arith)
-kind-is (some j) p q = cc
+kind-is (some j) p q = (cc, cc)
 
-pub kind-wrong : (o : Option Kind) {r : KindRead} → r ≡ kindRead o → r ≡ kind.Wrong → o ≡ none
-kind-wrong none p q = refl
-kind-wrong (some j) p q = let z : _≡_ {A = ℕ} 0 1 = cc in absurd (omega arith)
+pub kind-wrong : (o : Option Kind) (m : ℕ) {r : KindRead} → r ≡ kindRead o m → r ≡ kind.Wrong → o ≡ none
+kind-wrong none m p q = refl
+kind-wrong (some j) m p q = let z : _≡_ {A = ℕ} 0 1 = cc in absurd (omega arith)
 
-pub build-is : (o : Option Build) {r : BuildRead} {k : Build} → r ≡ buildRead o → r ≡ build.Is k → o ≡ some k
+pub kind-right : {o : Option Kind} {k : Kind} {m n : ℕ} → o ≡ some k → n ≡ m → kind.Is k n ≡ kindRead o m
+kind-right {k = k} {m = m} p q = ap (λ n. kind.Is k n) q ∙ sym (ap (λ o. kindRead o m) p)
+
+pub kind-refused : {o : Option Kind} (m : ℕ) → o ≡ none → kind.Wrong ≡ kindRead o m
+kind-refused m p = sym (ap (λ o. kindRead o m) p)
+
+pub build-is : (o : Option Build) {r : BuildRead} {m n : ℕ} {k : Build} → r ≡ buildRead o m → r ≡ build.Is k n → (o ≡ some k) × (n ≡ m)
 build-is none p q = let z : _≡_ {A = ℕ} 0 1 = cc in absurd (omega arith)
-build-is (some j) p q = cc
+build-is (some j) p q = (cc, cc)
 
-pub build-wrong : (o : Option Build) {r : BuildRead} → r ≡ buildRead o → r ≡ build.Wrong → o ≡ none
-build-wrong none p q = refl
-build-wrong (some j) p q = let z : _≡_ {A = ℕ} 0 1 = cc in absurd (omega arith)
+pub build-wrong : (o : Option Build) (m : ℕ) {r : BuildRead} → r ≡ buildRead o m → r ≡ build.Wrong → o ≡ none
+build-wrong none m p q = refl
+build-wrong (some j) m p q = let z : _≡_ {A = ℕ} 0 1 = cc in absurd (omega arith)
 
-pub figure-is : (o : Option ℕ) {r : Figure} {n : ℕ} → r ≡ figureRead o → r ≡ figure.Is n → o ≡ some n
+pub build-right : {o : Option Build} {k : Build} {m n : ℕ} → o ≡ some k → n ≡ m → build.Is k n ≡ buildRead o m
+build-right {k = k} {m = m} p q = ap (λ n. build.Is k n) q ∙ sym (ap (λ o. buildRead o m) p)
+
+pub build-refused : {o : Option Build} (m : ℕ) → o ≡ none → build.Wrong ≡ buildRead o m
+build-refused m p = sym (ap (λ o. buildRead o m) p)
+
+pub figure-is : (o : Option ℕ) {r : Figure} {m n k : ℕ} → r ≡ figureRead o m → r ≡ figure.Is k n → (o ≡ some k) × (n ≡ m)
 figure-is none p q = let z : _≡_ {A = ℕ} 0 1 = cc in absurd (omega arith)
-figure-is (some j) p q = cc
+figure-is (some j) p q = (cc, cc)
 
-pub figure-wrong : (o : Option ℕ) {r : Figure} → r ≡ figureRead o → r ≡ figure.Wrong → o ≡ none
-figure-wrong none p q = refl
-figure-wrong (some j) p q = let z : _≡_ {A = ℕ} 0 1 = cc in absurd (omega arith)
+pub figure-wrong : (o : Option ℕ) (m : ℕ) {r : Figure} → r ≡ figureRead o m → r ≡ figure.Wrong → o ≡ none
+figure-wrong none m p q = refl
+figure-wrong (some j) m p q = let z : _≡_ {A = ℕ} 0 1 = cc in absurd (omega arith)
 
--- ---- an empty value is none
+pub figure-right : {o : Option ℕ} {k : ℕ} {m n : ℕ} → o ≡ some k → n ≡ m → figure.Is k n ≡ figureRead o m
+figure-right {k = k} {m = m} p q = ap (λ n. figure.Is k n) q ∙ sym (ap (λ o. figureRead o m) p)
 
-pub number-line : (o : Option (List ℕ)) (v : List ℕ) (allowed : ℕ → Bool) → v ≡ Option·getD o [] → numberIn allowed v ≡ found o (numberIn allowed)
-unfolding numberIn numberOf isDecimal
-number-line o v allowed e = ap (numberIn allowed) e ∙ tested-empty o (numberIn allowed) refl
+pub figure-refused : {o : Option ℕ} (m : ℕ) → o ≡ none → figure.Wrong ≡ figureRead o m
+figure-refused m p = sym (ap (λ o. figureRead o m) p)
+
+-- ---- a line, from where it starts
+
+-- where its value stands, behind the key: that is the value that the line has, and the line ends with it
+pub record Value (s key : List ℕ) (start value : ℕ) : Type 0 where
+  pub within : value ≤ length s
+  pub line : valueAt 1 key (drop start s) ≡ firstLine (drop value s)
+  pub next : nextLine s value ≡ nextLine s start
+
+module _ (s key : List ℕ) (start : ℕ) (f : feedless key ≡ true) {r : Place}
+    (p : r ≡ placeRead (beginsWith key (drop start s)) (start + length key)) where
+  pub key-there : {value : ℕ} → start ≤ length s → r ≡ place.At value → Value s key start value
+  key-there {value} h q =
+      let w = place-at (beginsWith key (drop start s)) p q in
+      record {
+        within = value-within s key start f value h (w .0) (w .1);
+        line = value-line s key start f value h (w .0) (w .1);
+        next = value-next s key start f value h (w .0) (w .1);
+      }
+
+  pub key-missing : {A : Type 0} (allowed : List ℕ → Option A) → r ≡ place.Wrong → found (valueAt 1 key (drop start s)) allowed ≡ none
+  key-missing allowed q =
+      let b = place-wrong (beginsWith key (drop start s)) (start + length key) p q in
+      ap (λ v. found v allowed) (no-value s key start f b)
+
+pub figure-there : (s key : List ℕ) (start value : ℕ) (allowed : List ℕ → Option ℕ) {r : Figure} → Value s key start value
+    → r ≡ figureRead (found (firstLine (drop value s)) allowed) (nextLine s value)
+    → r ≡ figureRead (found (valueAt 1 key (drop start s)) allowed) (nextLine s start)
+figure-there s key start value allowed w e = e ∙ ap₂ (λ v n. figureRead (found v allowed) n) (sym (w .line)) (w .next)
+
+-- ---- the same of row n + 1, which starts behind n lines
+
+pub figure-row : (s key : List ℕ) (n start : ℕ) (allowed : List ℕ → Option ℕ) {r : Figure} → start ≡ linesLength n s
+    → r ≡ figureRead (found (valueAt 1 key (drop start s)) allowed) (nextLine s start)
+    → r ≡ figureRead (found (valueAt (suc n) key s) allowed) (linesLength (suc n) s)
+figure-row s key n start allowed at e =
+    e ∙ ap₂ (λ v m. figureRead (found v allowed) m) (start-value s n start at key) (start-next s n start at)
+
+pub record Row (s key : List ℕ) (n value : ℕ) : Type 0 where
+  pub within : value ≤ length s
+  pub line : valueAt (suc n) key s ≡ firstLine (drop value s)
+  pub next : nextLine s value ≡ linesLength (suc n) s
+
+module _ (s key : List ℕ) (n start : ℕ) (at : start ≡ linesLength n s) (f : feedless key ≡ true) {r : Place}
+    (p : r ≡ placeRead (beginsWith key (drop start s)) (start + length key)) where
+  pub row-there : {value : ℕ} → r ≡ place.At value → Row s key n value
+  row-there q =
+      let v = key-there s key start f p (start-within s n start at) q in
+      record { within = v .within; line = sym (start-value s n start at key) ∙ v .line; next = v .next ∙ start-next s n start at }
+
+  pub row-missing : {A : Type 0} (allowed : List ℕ → Option A) → r ≡ place.Wrong → found (valueAt (suc n) key s) allowed ≡ none
+  row-missing allowed q = ap (λ v. found v allowed) (sym (start-value s n start at key)) ∙ key-missing s key start f p allowed q
+
+-- a row of words, one after the other
+module _ {A : Type 0} (s key : List ℕ) (n : ℕ) {value : ℕ} (v : Row s key n value) (all : List (String × A)) where
+  -- the row says what it says in the words that are left
+  abbrev Left : List (String × A) → Type 0
+  Left ws = found (valueAt (suc n) key s) (wordIn all) ≡ found (firstLine (drop value s)) (wordIn ws)
+
+  pub words-all : Left all
+  words-all = ap (λ o. found o (wordIn all)) (v .line)
+
+  pub words-none : Left [] → found (valueAt (suc n) key s) (wordIn all) ≡ none
+  unfolding wordIn
+  words-none l = l ∙ by (firstLine (drop value s))
+    where
+      by : (o : Option (List ℕ)) → found o (wordIn {A = A} []) ≡ none
+      by none = refl
+      by (some t) = refl
+
+  module _ (w : String × A) (ws : List (String × A)) (f : feedless (text (w .0)) ≡ true) (l : Left (w ∷ ws)) {r : Place}
+      (p : r ≡ placeRead (beginsWith (ended w) (drop value s)) (value + length (ended w))) where
+    pub words-later : r ≡ place.Wrong → Left ws
+    words-later q = l ∙ word-later w ws s value f (place-wrong (beginsWith (ended w) (drop value s)) (value + length (ended w)) p q)
+
+    pub words-here : {next : ℕ} → r ≡ place.At next
+        → (found (valueAt (suc n) key s) (wordIn all) ≡ some (w .1)) × (next ≡ linesLength (suc n) s)
+    words-here q =
+        let b = place-at (beginsWith (ended w) (drop value s)) p q in
+        (l ∙ word-here w ws s value f (b .0), b .1 ∙ word-next w ws s value f (b .0) ∙ v .next)
 
 -- ---- one line after the other
 

@@ -1,6 +1,6 @@
 -- The bytes of a whole card are exactly the text of that card, and the text of a card in range is read as the card. Assumes nothing.
 use mathlib.Core.Path.{_≡_, refl, ap, ap₂, sym, _∙_}
-use mathlib.Core.Bool.{Bool, true, false, cond, not, _&&_}
+use mathlib.Core.Bool.{Bool, true, false, cond, not}
 use mathlib.Core.List.{List, [], _∷_, _++_, append-assoc}
 use mathlib.Core.Option.{Option, none, some, Option·map}
 use Prim.Native.Nat.{ℕ, pred}
@@ -12,6 +12,7 @@ use lib.ListN.{length, drop, length-append}
 use lib.Seq.{drop-append-seam}
 use Rattle.card.specs.Text.{text, found, lineFeed, firstLine, behindFirst, behind, lineOf, beginsWith, sameAs, valueOf, valueAt, wordIn, isDigit, allDigits, numberOf, numberIn}
 use Rattle.card.specs.Card.{lineSays, kinds, builds, gprsAllowed, tempsAllowed, constsAllowed, stackAllowed, quadsAllowed, cardOf, testOf}
+use Rattle.card.specs.Answers.{feedless}
 use Rattle.card.specs.Written.{decimal, kindWord, buildWord, row, written}
 use Rattle.card.specs.declared.Kind.{Kind}
 use Rattle.card.specs.declared.Kind.the-variants.{Pixel, Vertex, Geometry}
@@ -22,15 +23,11 @@ use Rattle.card.specs.declared.CardRead.the-variants.{Whole}
 use Rattle.card.specs.declared.CardTest.the-variants as test
 use Rattle.card.proofs.OfTests.{both, and}
 use Rattle.card.proofs.OfLines.{lines-place}
+use Rattle.card.proofs.OfKeys.{begins-text, behind-joined}
 use Rattle.card.proofs.OfDecimals.{digit-bounds, decimal-all, decimal-read, number-text}
 use Rattle.card.proofs.OfCard.{whole-says, says-whole, range-tests, whole-behind}
 
 -- ---- a line and its line feed
-
--- no byte is a line feed
-abbrev feedless : List ℕ → Bool
-feedless [] = true
-feedless (b ∷ t) = not (eqb b lineFeed) && feedless t
 
 first-of : (l r : List ℕ) → feedless l ≡ true → firstLine (l ++ (lineFeed ∷ r)) ≡ some l
 unfolding firstLine
@@ -41,10 +38,7 @@ first-of (b ∷ l) r h =
 
 behind-of : (l r : List ℕ) → feedless l ≡ true → behindFirst (l ++ (lineFeed ∷ r)) ≡ r
 unfolding behindFirst
-behind-of [] r h = refl
-behind-of (b ∷ l) r h =
-    let w = both (not (eqb b lineFeed)) (feedless l) h in
-    rw (not-true (eqb b lineFeed) (w .0), behind-of l r (w .1))
+behind-of l r h = behind-joined l (lineFeed ∷ r) h
 
 -- a text that has a first line is that line, a line feed and the rest
 line-text : (t l : List ℕ) → firstLine t ≡ some l → t ≡ l ++ (lineFeed ∷ behindFirst t)
@@ -67,14 +61,6 @@ line-text (b ∷ t) l h = by-feed (eqb b lineFeed) refl h (line-text t)
     by-feed false e h f = by-line (firstLine t) h f
 
 -- ---- a key and its value
-
-begins-text : (key l : List ℕ) → beginsWith key l ≡ true → l ≡ key ++ drop (length key) l
-unfolding beginsWith
-begins-text [] l h = refl
-begins-text (k ∷ key) [] h = let z : _≡_ {A = ℕ} 0 1 = cc in absurd (omega arith)
-begins-text (k ∷ key) (b ∷ l) h =
-    let w = both (eqb b k) (beginsWith key l) h in
-    ap₂ (λ (x : ℕ) (xs : List ℕ). x ∷ xs) (eqb-true b k (w .0)) (begins-text key l (w .1))
 
 begins-own : (key v : List ℕ) → beginsWith key (key ++ v) ≡ true
 unfolding beginsWith

@@ -1,32 +1,53 @@
--- What the private functions answer: an enum of the code for each Option of the definitions. The public contracts need none of it.
-use Prim.Native.Nat.{ℕ, suc}
-use mathlib.Core.Bool.{cond}
+-- What the private functions answer: an enum of the code for each test and each Option of the definitions. The public contracts need
+-- none of it.
+use Prim.Native.Nat.{ℕ, _+_}
+use Prim.Native.Char.{code}
+use mathlib.Core.Bool.{Bool, true, false, not, _&&_}
 use mathlib.Core.List.{List, [], _∷_}
 use mathlib.Core.Option.{Option, none, some}
 use lib.Dec.{eqb}
-use Rattle.card.specs.Text.{lineFeed}
+use lib.ListN.{drop}
+use Rattle.card.specs.Text.{lineFeed, linesLength}
 use Rattle.card.specs.declared.Kind.{Kind}
 use Rattle.card.specs.declared.Build.{Build}
 use Rattle.card.specs.declared.rows.KindRead.{KindRead}
 use Rattle.card.specs.declared.rows.KindRead.the-variants as kind
 use Rattle.card.specs.declared.rows.BuildRead.{BuildRead}
 use Rattle.card.specs.declared.rows.BuildRead.the-variants as build
+use Rattle.card.specs.declared.text.Place.{Place}
+use Rattle.card.specs.declared.text.Place.the-variants as place
 use Rattle.card.specs.declared.text.Figure.{Figure}
 use Rattle.card.specs.declared.text.Figure.the-variants as figure
 
--- how many bytes stand before the first line feed; all where there is none
-unfoldable pub lineEnd : List ℕ → ℕ
-lineEnd [] = 0
-lineEnd (b ∷ t) = cond (eqb b lineFeed) 0 (suc (lineEnd t))
+-- where the line behind the one that starts at a place starts
+abbrev pub nextLine : List ℕ → ℕ → ℕ
+nextLine s start = start + linesLength 1 (drop start s)
 
-abbrev pub kindRead : Option Kind → KindRead
-kindRead none = kind.Wrong
-kindRead (some k) = kind.Is k
+-- no byte is a line feed
+abbrev pub feedless : List ℕ → Bool
+feedless [] = true
+feedless (b ∷ t) = not (eqb b lineFeed) && feedless t
 
-abbrev pub buildRead : Option Build → BuildRead
-buildRead none = build.Wrong
-buildRead (some b) = build.Is b
+-- what digits are that are a number: one, or several of which the first is not 0
+abbrev pub wellFormed : List ℕ → Bool
+wellFormed [] = false
+wellFormed (b ∷ []) = true
+wellFormed (b ∷ c ∷ t) = not (eqb b (code "0"))
 
-abbrev pub figureRead : Option ℕ → Figure
-figureRead none = figure.Wrong
-figureRead (some n) = figure.Is n
+-- the place behind a key or a word, where it stands
+abbrev pub placeRead : Bool → ℕ → Place
+placeRead true behind = place.At behind
+placeRead false behind = place.Wrong
+
+-- what a line says, and where the next one starts
+abbrev pub kindRead : Option Kind → ℕ → KindRead
+kindRead none next = kind.Wrong
+kindRead (some k) next = kind.Is k next
+
+abbrev pub buildRead : Option Build → ℕ → BuildRead
+buildRead none next = build.Wrong
+buildRead (some b) next = build.Is b next
+
+abbrev pub figureRead : Option ℕ → ℕ → Figure
+figureRead none next = figure.Wrong
+figureRead (some n) next = figure.Is n next

@@ -60,25 +60,25 @@ pub enum CardTest {
 pub fn read_card(bytes: &[u8]) -> CardRead
     ensures { λ r. ⌜ r ≡ cardOf (now (bytes .entry)) ⌝ }
 {
-    let KindRead::Is(kind) = rows::kind_line(bytes) else {
+    let KindRead::Is(kind, build_at) = rows::kind_line(bytes, 0) else {
         return CardRead::BadLine(1);
     };
-    let BuildRead::Is(build) = rows::build_line(bytes) else {
+    let BuildRead::Is(build, gprs_at) = rows::build_line(bytes, build_at) else {
         return CardRead::BadLine(2);
     };
-    let Figure::Is(gprs) = rows::gprs_line(bytes) else {
+    let Figure::Is(gprs, temps_at) = rows::gprs_line(bytes, gprs_at) else {
         return CardRead::BadLine(3);
     };
-    let Figure::Is(temps) = rows::temps_line(bytes, gprs) else {
+    let Figure::Is(temps, consts_at) = rows::temps_line(bytes, temps_at, gprs) else {
         return CardRead::BadLine(4);
     };
-    let Figure::Is(consts) = rows::consts_line(bytes) else {
+    let Figure::Is(consts, stack_at) = rows::consts_line(bytes, consts_at) else {
         return CardRead::BadLine(5);
     };
-    let Figure::Is(stack) = rows::stack_line(bytes) else {
+    let Figure::Is(stack, quads_at) = rows::stack_line(bytes, stack_at) else {
         return CardRead::BadLine(6);
     };
-    let Figure::Is(quads) = rows::quads_line(bytes) else {
+    let Figure::Is(quads, taken) = rows::quads_line(bytes, quads_at) else {
         return CardRead::BadLine(7);
     };
     let card = Card {
@@ -90,7 +90,7 @@ pub fn read_card(bytes: &[u8]) -> CardRead
         stack,
         quads: Quadwords(quads as usize),
     };
-    CardRead::Whole(card, text::line_start(bytes, 8))
+    CardRead::Whole(card, taken)
 }
 
 // Tests a card that a caller made against the limits that a card in bytes is held to.

@@ -1,98 +1,118 @@
 // The rows of document 01's table: the seven lines of a card, each with its number, its key and what it allows.
 //
-// Each function finds its line by its number, from the start of the bytes, so that no row knows of another. Line 4 alone is told
-// what line 3 said.
+// Each function is told where its line starts, and answers what the line says and where the next one starts, so that no row knows
+// of another. Line 4 alone is told what line 3 said.
 ghost use mathlib.Core.Path.{_≡_};
-ghost use Rattle.card.specs.Text.{found, valueAt, wordIn, numberIn, from_to_};
+ghost use mathlib.Core.Bool.{true};
+ghost use Prim.Native.Nat.{_≤_};
+ghost use lib.ListN.{length, drop};
+ghost use Rattle.card.specs.Text.{found, linesLength, valueAt, wordIn, numberIn, from_to_};
 ghost use Rattle.card.specs.Card.{lineSays, kinds, builds, gprsAllowed, tempsAllowed, constsAllowed, stackAllowed, quadsAllowed};
-ghost use Rattle.card.specs.Answers.{kindRead, buildRead, figureRead};
+ghost use Rattle.card.specs.Answers.{kindRead, buildRead, figureRead, nextLine, feedless};
 use crate::Build;
 use crate::Kind;
 use crate::limits;
 use crate::limits::Limits;
 use crate::text;
 use crate::text::Figure;
+use crate::text::Place;
 
-// What a line says, or that it is not exactly right; `Figure` is the same for a number.
+// What a line says, and where the next one starts; or that the line is not exactly right. `Figure` is the same for a number.
 pub enum KindRead {
-    Is(Kind),
+    Is(Kind, usize),
     Wrong,
 }
 
 pub enum BuildRead {
-    Is(Build),
+    Is(Build, usize),
     Wrong,
 }
 
-pub fn kind_line(bytes: &[u8]) -> KindRead
-    ensures { λ r. ⌜ r ≡ kindRead (lineSays (now (bytes .entry)) 1 "kind" (wordIn kinds)) ⌝ }
+pub fn kind_line(bytes: &[u8], start: usize) -> KindRead
+    requires { ⌜ start ≡ linesLength 0 (now bytes) ⌝ }
+    ensures { λ r. ⌜ r ≡ kindRead (lineSays (now (bytes .entry)) 1 "kind" (wordIn kinds)) (linesLength 1 (now (bytes .entry))) ⌝ }
 {
-    let value = text::value(bytes, 1, b"kind=");
-    if text::same(value, b"ps") {
-        return KindRead::Is(Kind::Pixel);
+    let Place::At(value) = text::behind(bytes, start, b"kind=") else {
+        return KindRead::Wrong;
+    };
+    if let Place::At(next) = text::behind(bytes, value, b"ps\n") {
+        return KindRead::Is(Kind::Pixel, next);
     }
-    if text::same(value, b"vs") {
-        return KindRead::Is(Kind::Vertex);
+    if let Place::At(next) = text::behind(bytes, value, b"vs\n") {
+        return KindRead::Is(Kind::Vertex, next);
     }
-    if text::same(value, b"gs") {
-        return KindRead::Is(Kind::Geometry);
+    if let Place::At(next) = text::behind(bytes, value, b"gs\n") {
+        return KindRead::Is(Kind::Geometry, next);
     }
     KindRead::Wrong
 }
 
-pub fn build_line(bytes: &[u8]) -> BuildRead
-    ensures { λ r. ⌜ r ≡ buildRead (lineSays (now (bytes .entry)) 2 "build" (wordIn builds)) ⌝ }
+pub fn build_line(bytes: &[u8], start: usize) -> BuildRead
+    requires { ⌜ start ≡ linesLength 1 (now bytes) ⌝ }
+    ensures { λ r. ⌜ r ≡ buildRead (lineSays (now (bytes .entry)) 2 "build" (wordIn builds)) (linesLength 2 (now (bytes .entry))) ⌝ }
 {
-    let value = text::value(bytes, 2, b"build=");
-    if text::same(value, b"production") {
-        return BuildRead::Is(Build::Production);
+    let Place::At(value) = text::behind(bytes, start, b"build=") else {
+        return BuildRead::Wrong;
+    };
+    if let Place::At(next) = text::behind(bytes, value, b"production\n") {
+        return BuildRead::Is(Build::Production, next);
     }
-    if text::same(value, b"debug") {
-        return BuildRead::Is(Build::Debug);
+    if let Place::At(next) = text::behind(bytes, value, b"debug\n") {
+        return BuildRead::Is(Build::Debug, next);
     }
     BuildRead::Wrong
 }
 
-// The number in line `n`, within limits.
-fn number_line(bytes: &[u8], n: usize, key: &[u8], limits: Limits) -> Figure
-    ensures { λ r. ⌜ r ≡ figureRead (found (valueAt n (now (key .entry)) (now (bytes .entry))) (numberIn (from limits .low to limits .high))) ⌝ }
+// The number in the line that starts at `start`, within limits. A key without a line feed stands in the bytes there exactly if it
+// stands in the line.
+fn number_line(bytes: &[u8], start: usize, key: &[u8], limits: Limits) -> Figure
+    requires { ⌜ (start ≤ length (now bytes)) × (feedless (now key) ≡ true) ⌝ }
+    ensures { λ r. ⌜ r ≡ figureRead (found (valueAt 1 (now (key .entry)) (drop start (now (bytes .entry)))) (numberIn (from limits .low to limits .high))) (nextLine (now (bytes .entry)) start) ⌝ }
 {
-    text::number(text::value(bytes, n, key), limits)
+    let Place::At(value) = text::behind(bytes, start, key) else {
+        return Figure::Wrong;
+    };
+    text::number(bytes, value, limits)
 }
 
-pub fn gprs_line(bytes: &[u8]) -> Figure
-    ensures { λ r. ⌜ r ≡ figureRead (lineSays (now (bytes .entry)) 3 "gprs" (numberIn gprsAllowed)) ⌝ }
+pub fn gprs_line(bytes: &[u8], start: usize) -> Figure
+    requires { ⌜ start ≡ linesLength 2 (now bytes) ⌝ }
+    ensures { λ r. ⌜ r ≡ figureRead (lineSays (now (bytes .entry)) 3 "gprs" (numberIn gprsAllowed)) (linesLength 3 (now (bytes .entry))) ⌝ }
 {
-    number_line(bytes, 3, b"gprs=", limits::GPRS)
+    number_line(bytes, start, b"gprs=", limits::GPRS)
 }
 
 // temps by itself first, and with `gprs` only then.
-pub fn temps_line(bytes: &[u8], gprs: u32) -> Figure
-    ensures { λ r. ⌜ r ≡ figureRead (lineSays (now (bytes .entry)) 4 "temps" (numberIn (tempsAllowed gprs))) ⌝ }
+pub fn temps_line(bytes: &[u8], start: usize, gprs: u32) -> Figure
+    requires { ⌜ start ≡ linesLength 3 (now bytes) ⌝ }
+    ensures { λ r. ⌜ r ≡ figureRead (lineSays (now (bytes .entry)) 4 "temps" (numberIn (tempsAllowed gprs))) (linesLength 4 (now (bytes .entry))) ⌝ }
 {
-    let Figure::Is(temps) = number_line(bytes, 4, b"temps=", limits::TEMPS) else {
+    let Figure::Is(temps, next) = number_line(bytes, start, b"temps=", limits::TEMPS) else {
         return Figure::Wrong;
     };
     if limits::fit_together(gprs, temps) {
-        return Figure::Is(temps);
+        return Figure::Is(temps, next);
     }
     Figure::Wrong
 }
 
-pub fn consts_line(bytes: &[u8]) -> Figure
-    ensures { λ r. ⌜ r ≡ figureRead (lineSays (now (bytes .entry)) 5 "consts" (numberIn constsAllowed)) ⌝ }
+pub fn consts_line(bytes: &[u8], start: usize) -> Figure
+    requires { ⌜ start ≡ linesLength 4 (now bytes) ⌝ }
+    ensures { λ r. ⌜ r ≡ figureRead (lineSays (now (bytes .entry)) 5 "consts" (numberIn constsAllowed)) (linesLength 5 (now (bytes .entry))) ⌝ }
 {
-    number_line(bytes, 5, b"consts=", limits::CONSTS)
+    number_line(bytes, start, b"consts=", limits::CONSTS)
 }
 
-pub fn stack_line(bytes: &[u8]) -> Figure
-    ensures { λ r. ⌜ r ≡ figureRead (lineSays (now (bytes .entry)) 6 "stack" (numberIn stackAllowed)) ⌝ }
+pub fn stack_line(bytes: &[u8], start: usize) -> Figure
+    requires { ⌜ start ≡ linesLength 5 (now bytes) ⌝ }
+    ensures { λ r. ⌜ r ≡ figureRead (lineSays (now (bytes .entry)) 6 "stack" (numberIn stackAllowed)) (linesLength 6 (now (bytes .entry))) ⌝ }
 {
-    number_line(bytes, 6, b"stack=", limits::STACK)
+    number_line(bytes, start, b"stack=", limits::STACK)
 }
 
-pub fn quads_line(bytes: &[u8]) -> Figure
-    ensures { λ r. ⌜ r ≡ figureRead (lineSays (now (bytes .entry)) 7 "quads" (numberIn quadsAllowed)) ⌝ }
+pub fn quads_line(bytes: &[u8], start: usize) -> Figure
+    requires { ⌜ start ≡ linesLength 6 (now bytes) ⌝ }
+    ensures { λ r. ⌜ r ≡ figureRead (lineSays (now (bytes .entry)) 7 "quads" (numberIn quadsAllowed)) (linesLength 7 (now (bytes .entry))) ⌝ }
 {
-    number_line(bytes, 7, b"quads=", limits::QUADS)
+    number_line(bytes, start, b"quads=", limits::QUADS)
 }

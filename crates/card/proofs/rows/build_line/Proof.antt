@@ -1,16 +1,16 @@
--- `card::rows::build_line` meets its contract: the words of the list, one after the other. Assumes nothing.
+-- `card::rows::build_line` meets its contract: behind the key, the words of the list, one after the other. Assumes nothing.
 use borrow.Author.Needs.{needs}
-use mathlib.Core.Path.{_≡_, refl, _∙_, ap}
+use mathlib.Core.Path.{_≡_, refl}
 use mathlib.Core.List.{List, [], _∷_, _++_}
-use mathlib.Core.Option.{Option}
 use Prim.Native.Nat.{ℕ}
 use Prim.Native.String.{String}
-use Rattle.card.specs.Text.{text, valueAt, wordIn, sameAs}
+use lib.ListN.{drop}
+use Rattle.card.specs.Text.{text, found, firstLine, wordIn}
 use Rattle.card.specs.Card.{lineSays, builds}
-use Rattle.card.specs.Answers.{buildRead}
 use Rattle.card.specs.declared.Build.{Build}
 use Rattle.card.specs.declared.Build.the-variants.{Production, Debug}
-use Rattle.card.proofs.OfKeys.{word-line, word-here, word-later}
+use Rattle.card.proofs.OfLines.{start-within}
+use Rattle.card.proofs.OfRows.{build-right, build-refused, Row, row-there, row-missing, words-all, words-later, words-here, words-none}
 use Rattle.card.proofs.rows.build_line.Statement.{statement}
 use Rattle.card.proofs.rows.build_line.Tie as tie
 
@@ -21,62 +21,123 @@ behind-debug = []
 abbrev behind-production : List (String × Build)
 behind-production = ("debug", Debug) ∷ behind-debug
 
--- the words are looked for in what line 2 says
-says : (c : tie.After-value) → wordIn builds (c .value .result .now) ≡ lineSays (c .before .before .before .args .bytes .now) 2 "build" (wordIn builds)
-unfolding wordIn sameAs
-says c = word-line builds (valueAt 2 (text "build" ++ text "=") (c .before .before .before .args .bytes .now)) (c .value .result .now) refl (c .value .ensures)
+abbrev key : List ℕ
+key = text "build" ++ text "="
 
--- the value, behind the test of each word, and the words that are left
-abbrev value-1 : tie.Else1 → List ℕ
-value-1 c = c .before .before .before .value .result .now
+-- the key is there, and the value behind it
+abbrev bytes : tie.After-known-told → List ℕ
+bytes c = c .before .before .before .before .before .before .args .bytes .now
 
-not-production : (c : tie.Else1) {o : Option Build} → o ≡ wordIn behind-production (value-1 c) → o ≡ wordIn builds (value-1 c)
-not-production c e = word-later ("production", Production) behind-production (value-1 c) (c .before .same .ensures) (c .if1 .left) e
+abbrev place : tie.After-known-told → ℕ
+place c = c .before .value .given .0 .0
 
-abbrev value-2 : tie.Else2 → List ℕ
-value-2 c = value-1 (c .before .before .before)
+value : (c : tie.After-known-told) → Row (bytes c) key 1 (place c)
+value c =
+    let g = c .before .before .before .before .before .before in
+    row-there (bytes c) key 1 (g .args .start) (g .pre) refl (c .before .before .before .behind .ensures) (c .before .value .given .1)
 
-not-debug : (c : tie.Else2) {o : Option Build} → o ≡ wordIn behind-debug (value-2 c) → o ≡ wordIn builds (value-2 c)
-not-debug c e = not-production (c .before .before .before) (word-later ("debug", Debug) behind-debug (value-2 c) (c .before .same2 .ensures) (c .if2 .left) e)
+-- the line says what it says in the words that are left
+abbrev Left : tie.After-known-told → List (String × Build) → Type 0
+Left c ws = lineSays (bytes c) 2 "build" (wordIn builds) ≡ found (firstLine (drop (place c) (bytes c))) (wordIn ws)
 
-slice-aggregate-value : tie.Need-slice-aggregate-value
-slice-aggregate-value c = search needs
+left-all : (c : tie.After-known-told) → Left c builds
+left-all c = words-all (bytes c) key 1 (value c) builds
 
-value-requires : tie.Need-value-requires
-value-requires c κs = search needs
+not-production : (c : tie.After-enum-told2) → Left (c .before .before .before .before) behind-production
+not-production c =
+    let t = c .before .before .before .before in
+    words-later (bytes t) key 1 (value t) builds ("production", Production) behind-production refl
+    (left-all (c .before .before .before .before))
+    (c .before .before .behind2 .ensures) (c .enum-told2 .given .1)
 
-slice-aggregate-same : tie.Need-slice-aggregate-same
-slice-aggregate-same c = search needs
+not-debug : (c : tie.After-enum-told3) → Left (c .before .before .before .before .before .before .before .before) behind-debug
+not-debug c =
+    let t = c .before .before .before .before .before .before .before .before in
+    words-later (bytes t) key 1 (value t) builds ("debug", Debug) behind-debug refl
+    (not-production (c .before .before .before .before))
+    (c .before .before .behind3 .ensures) (c .enum-told3 .given .1)
 
-same-requires : tie.Need-same-requires
-same-requires c κs = search needs
+slice-aggregate-behind : tie.Need-slice-aggregate-behind
+slice-aggregate-behind c = search needs
+
+behind-requires : tie.Need-behind-requires
+behind-requires c κs = start-within _ 1 _ (c .before .before .pre)
+
+enum-known-value : tie.Need-enum-known-value
+enum-known-value c = search needs
+
+enum-told : tie.Need-enum-told
+enum-told c = search needs
 
 returns : tie.Need-returns
-returns c = ap buildRead (word-here ("production", Production) behind-production (c .before .before .before .value .result .now) (c .before .same .ensures) (c .if1 .taken) ∙ says (c .before .before .before))
+returns c =
+    let g = c .before .before .before .before .before in
+    let e = row-missing (g .args .bytes .now) key 1 (g .args .start) (g .pre) refl
+    (c .before .before .behind .ensures) (wordIn builds) (c .enum-told .given .1) in
+    build-refused _ e
 
-slice-aggregate-same-2 : tie.Need-slice-aggregate-same-2
-slice-aggregate-same-2 c = search needs
+slice-aggregate-behind-2 : tie.Need-slice-aggregate-behind-2
+slice-aggregate-behind-2 c = search needs
 
-same-requires-2 : tie.Need-same-requires-2
-same-requires-2 c κs = search needs
+behind-requires-2 : tie.Need-behind-requires-2
+behind-requires-2 c κs = value (c .before) .within
+
+enum-known-next : tie.Need-enum-known-next
+enum-known-next c = search needs
 
 returns-2 : tie.Need-returns-2
-returns-2 c = ap buildRead (not-production (c .before .before .before) (word-here ("debug", Debug) behind-debug (c .before .before .before .before .before .before .value .result .now) (c .before .same2 .ensures) (c .if2 .taken)) ∙ says (c .before .before .before .before .before .before))
+returns-2 c =
+    let t = c .before .before .before .before .before in
+    let w = words-here (bytes t) key 1 (value t) builds ("production", Production) behind-production refl
+    (left-all (c .before .before .before .before .before))
+    (c .before .before .before .behind2 .ensures) (c .before .next .given .1) in
+    build-right (w .0) (w .1)
+
+enum-told-2 : tie.Need-enum-told-2
+enum-told-2 c = search needs
+
+slice-aggregate-behind-3 : tie.Need-slice-aggregate-behind-3
+slice-aggregate-behind-3 c = search needs
+
+behind-requires-3 : tie.Need-behind-requires-3
+behind-requires-3 c κs = value (c .before .before .before .before .before) .within
+
+enum-known-next-2 : tie.Need-enum-known-next-2
+enum-known-next-2 c = search needs
 
 returns-3 : tie.Need-returns-3
-unfolding wordIn
-returns-3 c = ap buildRead (not-debug c refl ∙ says (c .before .before .before .before .before .before))
+returns-3 c =
+    let t = c .before .before .before .before .before .before .before .before .before in
+    let w = words-here (bytes t) key 1 (value t) builds ("debug", Debug) behind-debug refl
+    (not-production (c .before .before .before .before .before))
+    (c .before .before .before .behind3 .ensures) (c .before .next2 .given .1) in
+    build-right (w .0) (w .1)
+
+enum-told-3 : tie.Need-enum-told-3
+enum-told-3 c = search needs
+
+returns-4 : tie.Need-returns-4
+returns-4 c =
+    let t = c .before .before .before .before .before .before .before .before in
+    build-refused _ (words-none (bytes t) key 1 (value t) builds (not-debug c))
 
 pub build-line-spec : {M : Type 1} → statement M
 build-line-spec =
     tie.close
     (tie.spec
-    slice-aggregate-value
-    value-requires
-    slice-aggregate-same
-    same-requires
+    slice-aggregate-behind
+    behind-requires
+    enum-known-value
+    enum-told
     returns
-    slice-aggregate-same-2
-    same-requires-2
+    slice-aggregate-behind-2
+    behind-requires-2
+    enum-known-next
     returns-2
-    returns-3)
+    enum-told-2
+    slice-aggregate-behind-3
+    behind-requires-3
+    enum-known-next-2
+    returns-3
+    enum-told-3
+    returns-4)

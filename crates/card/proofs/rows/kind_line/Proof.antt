@@ -1,16 +1,16 @@
--- `card::rows::kind_line` meets its contract: the words of the list, one after the other. Assumes nothing.
+-- `card::rows::kind_line` meets its contract: behind the key, the words of the list, one after the other. Assumes nothing.
 use borrow.Author.Needs.{needs}
-use mathlib.Core.Path.{_≡_, refl, _∙_, ap}
+use mathlib.Core.Path.{_≡_, refl}
 use mathlib.Core.List.{List, [], _∷_, _++_}
-use mathlib.Core.Option.{Option}
 use Prim.Native.Nat.{ℕ}
 use Prim.Native.String.{String}
-use Rattle.card.specs.Text.{text, valueAt, wordIn, sameAs}
+use lib.ListN.{drop}
+use Rattle.card.specs.Text.{text, found, firstLine, wordIn}
 use Rattle.card.specs.Card.{lineSays, kinds}
-use Rattle.card.specs.Answers.{kindRead}
 use Rattle.card.specs.declared.Kind.{Kind}
 use Rattle.card.specs.declared.Kind.the-variants.{Pixel, Vertex, Geometry}
-use Rattle.card.proofs.OfKeys.{word-line, word-here, word-later}
+use Rattle.card.proofs.OfLines.{start-within}
+use Rattle.card.proofs.OfRows.{kind-right, kind-refused, Row, row-there, row-missing, words-all, words-later, words-here, words-none}
 use Rattle.card.proofs.rows.kind_line.Statement.{statement}
 use Rattle.card.proofs.rows.kind_line.Tie as tie
 
@@ -24,80 +24,155 @@ behind-vs = ("gs", Geometry) ∷ behind-gs
 abbrev behind-ps : List (String × Kind)
 behind-ps = ("vs", Vertex) ∷ behind-vs
 
--- the words are looked for in what line 1 says
-says : (c : tie.After-value) → wordIn kinds (c .value .result .now) ≡ lineSays (c .before .before .before .args .bytes .now) 1 "kind" (wordIn kinds)
-unfolding wordIn sameAs
-says c = word-line kinds (valueAt 1 (text "kind" ++ text "=") (c .before .before .before .args .bytes .now)) (c .value .result .now) refl (c .value .ensures)
+abbrev key : List ℕ
+key = text "kind" ++ text "="
 
--- the value, behind the test of each word, and the words that are left
-abbrev value-1 : tie.Else1 → List ℕ
-value-1 c = c .before .before .before .value .result .now
+-- the key is there, and the value behind it
+abbrev bytes : tie.After-known-told → List ℕ
+bytes c = c .before .before .before .before .before .before .args .bytes .now
 
-not-ps : (c : tie.Else1) {o : Option Kind} → o ≡ wordIn behind-ps (value-1 c) → o ≡ wordIn kinds (value-1 c)
-not-ps c e = word-later ("ps", Pixel) behind-ps (value-1 c) (c .before .same .ensures) (c .if1 .left) e
+abbrev place : tie.After-known-told → ℕ
+place c = c .before .value .given .0 .0
 
-abbrev value-2 : tie.Else2 → List ℕ
-value-2 c = value-1 (c .before .before .before)
+value : (c : tie.After-known-told) → Row (bytes c) key 0 (place c)
+value c =
+    let g = c .before .before .before .before .before .before in
+    row-there (bytes c) key 0 (g .args .start) (g .pre) refl (c .before .before .before .behind .ensures) (c .before .value .given .1)
 
-not-vs : (c : tie.Else2) {o : Option Kind} → o ≡ wordIn behind-vs (value-2 c) → o ≡ wordIn kinds (value-2 c)
-not-vs c e = not-ps (c .before .before .before) (word-later ("vs", Vertex) behind-vs (value-2 c) (c .before .same2 .ensures) (c .if2 .left) e)
+-- the line says what it says in the words that are left
+abbrev Left : tie.After-known-told → List (String × Kind) → Type 0
+Left c ws = lineSays (bytes c) 1 "kind" (wordIn kinds) ≡ found (firstLine (drop (place c) (bytes c))) (wordIn ws)
 
-abbrev value-3 : tie.Else3 → List ℕ
-value-3 c = value-2 (c .before .before .before)
+left-all : (c : tie.After-known-told) → Left c kinds
+left-all c = words-all (bytes c) key 0 (value c) kinds
 
-not-gs : (c : tie.Else3) {o : Option Kind} → o ≡ wordIn behind-gs (value-3 c) → o ≡ wordIn kinds (value-3 c)
-not-gs c e = not-vs (c .before .before .before) (word-later ("gs", Geometry) behind-gs (value-3 c) (c .before .same3 .ensures) (c .if3 .left) e)
+not-ps : (c : tie.After-enum-told2) → Left (c .before .before .before .before) behind-ps
+not-ps c =
+    let t = c .before .before .before .before in
+    words-later (bytes t) key 0 (value t) kinds ("ps", Pixel) behind-ps refl
+    (left-all (c .before .before .before .before))
+    (c .before .before .behind2 .ensures) (c .enum-told2 .given .1)
 
-slice-aggregate-value : tie.Need-slice-aggregate-value
-slice-aggregate-value c = search needs
+not-vs : (c : tie.After-enum-told3) → Left (c .before .before .before .before .before .before .before .before) behind-vs
+not-vs c =
+    let t = c .before .before .before .before .before .before .before .before in
+    words-later (bytes t) key 0 (value t) kinds ("vs", Vertex) behind-vs refl
+    (not-ps (c .before .before .before .before))
+    (c .before .before .behind3 .ensures) (c .enum-told3 .given .1)
 
-value-requires : tie.Need-value-requires
-value-requires c κs = search needs
+not-gs : (c : tie.After-enum-told4) → Left (c .before .before .before .before .before .before .before .before .before .before .before .before) behind-gs
+not-gs c =
+    let t = c .before .before .before .before .before .before .before .before .before .before .before .before in
+    words-later (bytes t) key 0 (value t) kinds ("gs", Geometry) behind-gs refl
+    (not-vs (c .before .before .before .before))
+    (c .before .before .behind4 .ensures) (c .enum-told4 .given .1)
 
-slice-aggregate-same : tie.Need-slice-aggregate-same
-slice-aggregate-same c = search needs
+slice-aggregate-behind : tie.Need-slice-aggregate-behind
+slice-aggregate-behind c = search needs
 
-same-requires : tie.Need-same-requires
-same-requires c κs = search needs
+behind-requires : tie.Need-behind-requires
+behind-requires c κs = start-within _ 0 _ (c .before .before .pre)
+
+enum-known-value : tie.Need-enum-known-value
+enum-known-value c = search needs
+
+enum-told : tie.Need-enum-told
+enum-told c = search needs
 
 returns : tie.Need-returns
-returns c = ap kindRead (word-here ("ps", Pixel) behind-ps (c .before .before .before .value .result .now) (c .before .same .ensures) (c .if1 .taken) ∙ says (c .before .before .before))
+returns c =
+    let g = c .before .before .before .before .before in
+    let e = row-missing (g .args .bytes .now) key 0 (g .args .start) (g .pre) refl
+    (c .before .before .behind .ensures) (wordIn kinds) (c .enum-told .given .1) in
+    kind-refused _ e
 
-slice-aggregate-same-2 : tie.Need-slice-aggregate-same-2
-slice-aggregate-same-2 c = search needs
+slice-aggregate-behind-2 : tie.Need-slice-aggregate-behind-2
+slice-aggregate-behind-2 c = search needs
 
-same-requires-2 : tie.Need-same-requires-2
-same-requires-2 c κs = search needs
+behind-requires-2 : tie.Need-behind-requires-2
+behind-requires-2 c κs = value (c .before) .within
+
+enum-known-next : tie.Need-enum-known-next
+enum-known-next c = search needs
 
 returns-2 : tie.Need-returns-2
-returns-2 c = ap kindRead (not-ps (c .before .before .before) (word-here ("vs", Vertex) behind-vs (c .before .before .before .before .before .before .value .result .now) (c .before .same2 .ensures) (c .if2 .taken)) ∙ says (c .before .before .before .before .before .before))
+returns-2 c =
+    let t = c .before .before .before .before .before in
+    let w = words-here (bytes t) key 0 (value t) kinds ("ps", Pixel) behind-ps refl
+    (left-all (c .before .before .before .before .before))
+    (c .before .before .before .behind2 .ensures) (c .before .next .given .1) in
+    kind-right (w .0) (w .1)
 
-slice-aggregate-same-3 : tie.Need-slice-aggregate-same-3
-slice-aggregate-same-3 c = search needs
+enum-told-2 : tie.Need-enum-told-2
+enum-told-2 c = search needs
 
-same-requires-3 : tie.Need-same-requires-3
-same-requires-3 c κs = search needs
+slice-aggregate-behind-3 : tie.Need-slice-aggregate-behind-3
+slice-aggregate-behind-3 c = search needs
+
+behind-requires-3 : tie.Need-behind-requires-3
+behind-requires-3 c κs = value (c .before .before .before .before .before) .within
+
+enum-known-next-2 : tie.Need-enum-known-next-2
+enum-known-next-2 c = search needs
 
 returns-3 : tie.Need-returns-3
-returns-3 c = ap kindRead (not-vs (c .before .before .before) (word-here ("gs", Geometry) behind-gs (c .before .before .before .before .before .before .before .before .before .value .result .now) (c .before .same3 .ensures) (c .if3 .taken)) ∙ says (c .before .before .before .before .before .before .before .before .before))
+returns-3 c =
+    let t = c .before .before .before .before .before .before .before .before .before in
+    let w = words-here (bytes t) key 0 (value t) kinds ("vs", Vertex) behind-vs refl
+    (not-ps (c .before .before .before .before .before))
+    (c .before .before .before .behind3 .ensures) (c .before .next2 .given .1) in
+    kind-right (w .0) (w .1)
+
+enum-told-3 : tie.Need-enum-told-3
+enum-told-3 c = search needs
+
+slice-aggregate-behind-4 : tie.Need-slice-aggregate-behind-4
+slice-aggregate-behind-4 c = search needs
+
+behind-requires-4 : tie.Need-behind-requires-4
+behind-requires-4 c κs = value (c .before .before .before .before .before .before .before .before .before) .within
+
+enum-known-next-3 : tie.Need-enum-known-next-3
+enum-known-next-3 c = search needs
 
 returns-4 : tie.Need-returns-4
-unfolding wordIn
-returns-4 c = ap kindRead (not-gs c refl ∙ says (c .before .before .before .before .before .before .before .before .before))
+returns-4 c =
+    let t = c .before .before .before .before .before .before .before .before .before .before .before .before .before in
+    let w = words-here (bytes t) key 0 (value t) kinds ("gs", Geometry) behind-gs refl
+    (not-vs (c .before .before .before .before .before))
+    (c .before .before .before .behind4 .ensures) (c .before .next3 .given .1) in
+    kind-right (w .0) (w .1)
+
+enum-told-4 : tie.Need-enum-told-4
+enum-told-4 c = search needs
+
+returns-5 : tie.Need-returns-5
+returns-5 c =
+    let t = c .before .before .before .before .before .before .before .before .before .before .before .before in
+    kind-refused _ (words-none (bytes t) key 0 (value t) kinds (not-gs c))
 
 pub kind-line-spec : {M : Type 1} → statement M
 kind-line-spec =
     tie.close
     (tie.spec
-    slice-aggregate-value
-    value-requires
-    slice-aggregate-same
-    same-requires
+    slice-aggregate-behind
+    behind-requires
+    enum-known-value
+    enum-told
     returns
-    slice-aggregate-same-2
-    same-requires-2
+    slice-aggregate-behind-2
+    behind-requires-2
+    enum-known-next
     returns-2
-    slice-aggregate-same-3
-    same-requires-3
+    enum-told-2
+    slice-aggregate-behind-3
+    behind-requires-3
+    enum-known-next-2
     returns-3
-    returns-4)
+    enum-told-3
+    slice-aggregate-behind-4
+    behind-requires-4
+    enum-known-next-3
+    returns-4
+    enum-told-4
+    returns-5)
