@@ -1,6 +1,6 @@
-/* Functions of the proved judge, for C and C++ on x86-64. `rt staticlib exports` writes target/staticlib/libexports.a; link that.
- * Nothing is allocated, nothing is written, and any arguments get an answer: each pointer is read for as many elements as the
- * length behind it says (it may be anything where the length is 0). */
+/* Functions of the proved judge and codec, for C and C++ on x86-64. `rt staticlib exports` writes target/staticlib/libexports.a; link
+ * that. Nothing is allocated, and any arguments get an answer: each pointer is read for as many elements as the length behind it says
+ * (it may be anything where the length is 0). Only the codec writes, and only to what is not const; that must not overlap the rest. */
 #ifndef ZLATOMRUK_H
 #define ZLATOMRUK_H
 
@@ -23,6 +23,92 @@ uint64_t zlatomruk_alu_clause(const uint32_t *words, size_t words_length, size_t
 static inline uint32_t zlatomruk_number(uint64_t verdict) { return (uint32_t)(verdict & 0xFF); }
 static inline uint32_t zlatomruk_place(uint64_t verdict) { return (uint32_t)(verdict >> 8 & 0xFFFFFF); }
 static inline uint32_t zlatomruk_slot(uint64_t verdict) { return (uint32_t)(verdict >> 32); }
+
+/* ---- The codec: a pair of words as 32-bit values, and back.
+ *
+ * Element 0 is the form. Behind it stand the fields of the low word, then those of the high word, each from the lowest bit up, by AMD's
+ * names. COUNT of a CF pair, which has two pieces in the word, is one value; bit 20 and bits 16:12 are carried.
+ *
+ *  0  0 CF_ALU           1 CF               2 export           3 ALU, OP2            4 ALU, OP3
+ *  1  ADDR               ADDR               ARRAY_BASE         SRC0_SEL              SRC0_SEL
+ *  2  KCACHE_BANK0       POP_COUNT          TYPE               SRC0_REL              SRC0_REL
+ *  3  KCACHE_BANK1       CF_CONST           RW_GPR             SRC0_CHAN             SRC0_CHAN
+ *  4  KCACHE_MODE0       COND               RW_REL             SRC0_NEG              SRC0_NEG
+ *  5  KCACHE_MODE1       COUNT              INDEX_GPR          SRC1_SEL              SRC1_SEL
+ *  6  KCACHE_ADDR0       CALL_COUNT         ELEM_SIZE          SRC1_REL              SRC1_REL
+ *  7  KCACHE_ADDR1       bit 20             SEL_X              SRC1_CHAN             SRC1_CHAN
+ *  8  COUNT              END_OF_PROGRAM     SEL_Y              SRC1_NEG              SRC1_NEG
+ *  9  ALT_CONST          VALID_PIXEL_MODE   SEL_Z              INDEX_MODE            INDEX_MODE
+ *  10 CF_INST            CF_INST            SEL_W              PRED_SEL              PRED_SEL
+ *  11 WHOLE_QUAD_MODE    WHOLE_QUAD_MODE    bits 16:12         LAST                  LAST
+ *  12 BARRIER            BARRIER            BURST_COUNT        SRC0_ABS              SRC2_SEL
+ *  13                                       END_OF_PROGRAM     SRC1_ABS              SRC2_REL
+ *  14                                       VALID_PIXEL_MODE   UPDATE_EXECUTE_MASK   SRC2_CHAN
+ *  15                                       CF_INST            UPDATE_PRED           SRC2_NEG
+ *  16                                       WHOLE_QUAD_MODE    WRITE_MASK            ALU_INST
+ *  17                                       BARRIER            OMOD                  BANK_SWIZZLE
+ *  18                                                          ALU_INST              DST_GPR
+ *  19                                                          BANK_SWIZZLE          DST_REL
+ *  20                                                          DST_GPR               DST_CHAN
+ *  21                                                          DST_REL               CLAMP
+ *  22                                                          DST_CHAN
+ *  23                                                          CLAMP */
+enum zlatomruk_form { ZLATOMRUK_CF_ALU, ZLATOMRUK_CF, ZLATOMRUK_EXPORT, ZLATOMRUK_OP2, ZLATOMRUK_OP3 };
+
+enum zlatomruk_stream { ZLATOMRUK_CONTROL_FLOW, ZLATOMRUK_ALU };
+
+/* The elements that hold every form. */
+enum { ZLATOMRUK_VALUES = 24 };
+
+enum zlatomruk_cf_alu_value {
+    ZLATOMRUK_CF_ALU_ADDR = 1, ZLATOMRUK_CF_ALU_KCACHE_BANK0, ZLATOMRUK_CF_ALU_KCACHE_BANK1, ZLATOMRUK_CF_ALU_KCACHE_MODE0,
+    ZLATOMRUK_CF_ALU_KCACHE_MODE1, ZLATOMRUK_CF_ALU_KCACHE_ADDR0, ZLATOMRUK_CF_ALU_KCACHE_ADDR1, ZLATOMRUK_CF_ALU_COUNT,
+    ZLATOMRUK_CF_ALU_ALT_CONST, ZLATOMRUK_CF_ALU_CF_INST, ZLATOMRUK_CF_ALU_WHOLE_QUAD_MODE, ZLATOMRUK_CF_ALU_BARRIER
+};
+
+enum zlatomruk_cf_value {
+    ZLATOMRUK_CF_ADDR = 1, ZLATOMRUK_CF_POP_COUNT, ZLATOMRUK_CF_CF_CONST, ZLATOMRUK_CF_COND, ZLATOMRUK_CF_COUNT,
+    ZLATOMRUK_CF_CALL_COUNT, ZLATOMRUK_CF_BIT_20, ZLATOMRUK_CF_END_OF_PROGRAM, ZLATOMRUK_CF_VALID_PIXEL_MODE,
+    ZLATOMRUK_CF_CF_INST, ZLATOMRUK_CF_WHOLE_QUAD_MODE, ZLATOMRUK_CF_BARRIER
+};
+
+enum zlatomruk_export_value {
+    ZLATOMRUK_EXPORT_ARRAY_BASE = 1, ZLATOMRUK_EXPORT_TYPE, ZLATOMRUK_EXPORT_RW_GPR, ZLATOMRUK_EXPORT_RW_REL,
+    ZLATOMRUK_EXPORT_INDEX_GPR, ZLATOMRUK_EXPORT_ELEM_SIZE, ZLATOMRUK_EXPORT_SEL_X, ZLATOMRUK_EXPORT_SEL_Y,
+    ZLATOMRUK_EXPORT_SEL_Z, ZLATOMRUK_EXPORT_SEL_W, ZLATOMRUK_EXPORT_BITS_16_12, ZLATOMRUK_EXPORT_BURST_COUNT,
+    ZLATOMRUK_EXPORT_END_OF_PROGRAM, ZLATOMRUK_EXPORT_VALID_PIXEL_MODE, ZLATOMRUK_EXPORT_CF_INST,
+    ZLATOMRUK_EXPORT_WHOLE_QUAD_MODE, ZLATOMRUK_EXPORT_BARRIER
+};
+
+/* Forms 3 and 4 share the low word. */
+enum zlatomruk_alu_value {
+    ZLATOMRUK_ALU_SRC0_SEL = 1, ZLATOMRUK_ALU_SRC0_REL, ZLATOMRUK_ALU_SRC0_CHAN, ZLATOMRUK_ALU_SRC0_NEG, ZLATOMRUK_ALU_SRC1_SEL,
+    ZLATOMRUK_ALU_SRC1_REL, ZLATOMRUK_ALU_SRC1_CHAN, ZLATOMRUK_ALU_SRC1_NEG, ZLATOMRUK_ALU_INDEX_MODE, ZLATOMRUK_ALU_PRED_SEL,
+    ZLATOMRUK_ALU_LAST
+};
+
+enum zlatomruk_op2_value {
+    ZLATOMRUK_OP2_SRC0_ABS = 12, ZLATOMRUK_OP2_SRC1_ABS, ZLATOMRUK_OP2_UPDATE_EXECUTE_MASK, ZLATOMRUK_OP2_UPDATE_PRED,
+    ZLATOMRUK_OP2_WRITE_MASK, ZLATOMRUK_OP2_OMOD, ZLATOMRUK_OP2_ALU_INST, ZLATOMRUK_OP2_BANK_SWIZZLE, ZLATOMRUK_OP2_DST_GPR,
+    ZLATOMRUK_OP2_DST_REL, ZLATOMRUK_OP2_DST_CHAN, ZLATOMRUK_OP2_CLAMP
+};
+
+enum zlatomruk_op3_value {
+    ZLATOMRUK_OP3_SRC2_SEL = 12, ZLATOMRUK_OP3_SRC2_REL, ZLATOMRUK_OP3_SRC2_CHAN, ZLATOMRUK_OP3_SRC2_NEG,
+    ZLATOMRUK_OP3_ALU_INST, ZLATOMRUK_OP3_BANK_SWIZZLE, ZLATOMRUK_OP3_DST_GPR, ZLATOMRUK_OP3_DST_REL, ZLATOMRUK_OP3_DST_CHAN,
+    ZLATOMRUK_OP3_CLAMP
+};
+
+/* Decodes the pair at word `start` of `words` (any number): control flow where `stream` is 0, ALU otherwise. 0, and the form's values are
+ * written; the elements behind them stay as they were. Else nothing is written: 2 where the pair does not lie in the words, 4 or 11 where
+ * its control-flow or ALU number is not taken, 20 where it is and `values` has fewer than 24 elements. */
+uint32_t zlatomruk_decode(const uint32_t *words, size_t words_length, size_t start, uint32_t stream, uint32_t *values,
+                          size_t values_length);
+
+/* Encodes the record that `values` holds into two words at word `start` of `words` (any number): 0. Else nothing is written: 21 where
+ * `values` has fewer than 24 elements, the form is above 4, a value has more bits than its field, or the form has no such number; 20 where
+ * two words do not fit. What stands behind the form's last value is not looked at. */
+uint32_t zlatomruk_encode(const uint32_t *values, size_t values_length, uint32_t *words, size_t words_length, size_t start);
 
 #ifdef __cplusplus
 }

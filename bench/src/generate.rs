@@ -1,6 +1,7 @@
 //! Seeded cases: packs that are accepted by construction, aimed damage of every rule, and random words.
 
 pub mod clause;
+pub mod codec;
 pub mod control;
 pub mod damage;
 pub mod pack;

@@ -45,3 +45,24 @@ pub fn judge(card: &[u8], words: &[u32]) -> (u32, usize, usize) {
     let answer = unsafe { zlatomruk_judge(card.as_ptr(), card.len(), words.as_ptr(), words.len()) };
     ((answer & 0xFF) as u32, (answer >> 8 & 0xFF_FFFF) as usize, (answer >> 32) as usize)
 }
+
+unsafe extern "C" {
+    fn zlatomruk_decode(
+        words: *const u32, words_len: usize, start: usize, stream: u32, values: *mut u32, values_len: usize,
+    ) -> u32;
+    fn zlatomruk_encode(values: *const u32, values_len: usize, words: *mut u32, words_len: usize, start: usize) -> u32;
+}
+
+/// `plain::codec::decode`, proved.
+#[inline]
+pub fn decode(words: &[u32], start: usize, stream: u32, values: &mut [u32]) -> u32 {
+    // Two slices that do not overlap; the callee reads the first and writes the second.
+    unsafe { zlatomruk_decode(words.as_ptr(), words.len(), start, stream, values.as_mut_ptr(), values.len()) }
+}
+
+/// `plain::codec::encode`, proved.
+#[inline]
+pub fn encode(values: &[u32], words: &mut [u32], start: usize) -> u32 {
+    // As above.
+    unsafe { zlatomruk_encode(values.as_ptr(), values.len(), words.as_mut_ptr(), words.len(), start) }
+}

@@ -2,6 +2,7 @@
 
 pub mod alu;
 pub mod card;
+pub mod codec;
 pub mod control;
 pub mod fetches;
 pub mod flow;

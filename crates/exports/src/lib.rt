@@ -1,6 +1,10 @@
-// Functions for C and Rust to link, by `rt staticlib exports`: for tests and benchmarks.
+// Functions for C and Rust to link, by `rt staticlib exports`: the judge here, the codec in `codec`.
 //
 // A slice is passed as a pointer and a length. A verdict comes back as one number (specs/Packed.antt).
+pub mod codec;
+mod records;
+mod rows;
+
 use card::Kind;
 use checks::Verdict;
 use grants::Limits;

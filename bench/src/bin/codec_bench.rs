@@ -1,0 +1,153 @@
+//! The codec: both versions compared over pairs of words and rows of values, every lent element included, then timed.
+
+use std::hint::black_box;
+use std::process::exit;
+
+use zlatomruk_bench::generate::codec::{STREAMS, numbered, numbers, row, start, taken};
+use zlatomruk_bench::generate::random::Random;
+use zlatomruk_bench::plain::codec::VALUES;
+use zlatomruk_bench::{plain, proved, timing};
+
+/// Pairs of each stream, of each kind: random words, taken numbers, every number in turn.
+const PAIRS: usize = 500_000;
+const ROWS: usize = 2_000_000;
+/// Pairs that are timed in turn: more than a branch predictor learns by heart.
+const TIMED: usize = 4096;
+const ROUNDS: usize = 1000;
+
+fn main() {
+    let random = &mut Random::new(2011);
+    let mut decoded = Tally::default();
+    for stream in STREAMS {
+        for case in 0..PAIRS {
+            let number = case as u32 % numbers(stream);
+            for pair in [[random.word(), random.word()], taken(stream, random), numbered(stream, number, random)] {
+                decoded.count(compare_decode(pair, stream, random));
+            }
+        }
+    }
+    decoded.print("pairs decoded", &[0, 2, 4, 11, 20]);
+    let mut encoded = Tally::default();
+    for _ in 0..ROWS {
+        encoded.count(compare_encode(&row(random), random));
+    }
+    encoded.print("rows encoded", &[0, 20, 21]);
+    for stream in STREAMS {
+        time(stream, random);
+    }
+}
+
+/// How often each answer was given.
+#[derive(Default)]
+struct Tally([u64; 22]);
+
+impl Tally {
+    fn count(&mut self, answer: u32) {
+        self.0[answer as usize] += 1;
+    }
+
+    /// Every one of these answers has to have occurred.
+    fn print(&self, what: &str, answers: &[usize]) {
+        println!("{} {what}, no differences; answer: cases", self.0.iter().sum::<u64>());
+        for &answer in answers {
+            println!("  {answer:2}: {}", self.0[answer]);
+            if self.0[answer] == 0 {
+                fail(&format!("answer {answer} did not occur"));
+            }
+        }
+    }
+}
+
+fn fail(why: &str) -> ! {
+    eprintln!("{why}");
+    exit(1)
+}
+
+fn random_words(count: usize, random: &mut Random) -> Vec<u32> {
+    (0..count).map(|_| random.word()).collect()
+}
+
+/// Both decoders on a pair among random words; what was decoded is encoded again.
+fn compare_decode(pair: [u32; 2], stream: u32, random: &mut Random) -> u32 {
+    let before = random.below(4);
+    let mut words = random_words(before, random);
+    words.extend(pair);
+    words.extend(random_words(random.below(3), random));
+    let start = start(before, words.len(), random);
+    // The ALU stream is any number but 0.
+    let stream = if stream == 1 && random.once_in(4) { random.word().max(1) } else { stream };
+    let room = if random.once_in(30) { random.below(VALUES) } else { VALUES + random.below(3) };
+    let mut ours = random_words(room, random);
+    let mut theirs = ours.clone();
+    let answer = plain::codec::decode(&words, start, stream, &mut ours);
+    if answer != proved::decode(&words, start, stream, &mut theirs) || ours != theirs {
+        fail(&format!("decode differs: words {words:08X?}, start {start}, stream {stream}, room {room}"));
+    }
+    if answer == 0 {
+        let mut back = words.clone();
+        back[start..start + 2].fill(0);
+        if proved::encode(&theirs, &mut back, start) != 0 || back != words {
+            fail(&format!("not encoded again: words {words:08X?}, start {start}, stream {stream}"));
+        }
+    }
+    answer
+}
+
+/// Both encoders on a row of values, into random words.
+fn compare_encode(values: &[u32], random: &mut Random) -> u32 {
+    let length = random.below(8);
+    let start = start(random.below(length.max(2) - 1), length, random);
+    let mut ours = random_words(length, random);
+    let mut theirs = ours.clone();
+    let answer = plain::codec::encode(values, &mut ours, start);
+    if answer != proved::encode(values, &mut theirs, start) || ours != theirs {
+        fail(&format!("encode differs: values {values:X?}, {length} words, start {start}"));
+    }
+    answer
+}
+
+/// The archive's functions are not inlined into the loop, so neither are these.
+#[inline(never)]
+fn plain_decode(words: &[u32], start: usize, stream: u32, values: &mut [u32]) -> u32 {
+    plain::codec::decode(words, start, stream, values)
+}
+
+#[inline(never)]
+fn plain_encode(values: &[u32], words: &mut [u32], start: usize) -> u32 {
+    plain::codec::encode(values, words, start)
+}
+
+fn time(stream: u32, random: &mut Random) {
+    let words: Vec<u32> = (0..TIMED).flat_map(|_| taken(stream, random)).collect();
+    let mut rows = vec![[0; VALUES]; TIMED];
+    for (pair, values) in rows.iter_mut().enumerate() {
+        assert_eq!(plain::codec::decode(&words, 2 * pair, stream, values), 0, "a pair made to be taken");
+    }
+    let decode_all = |decode: fn(&[u32], usize, u32, &mut [u32]) -> u32| {
+        let mut values = [0; VALUES];
+        for pair in 0..TIMED {
+            black_box(decode(black_box(&words), 2 * pair, stream, &mut values));
+            black_box(&values);
+        }
+    };
+    let encode_all = |encode: fn(&[u32], &mut [u32], usize) -> u32| {
+        let mut out = [0; 2];
+        for values in &rows {
+            black_box(encode(black_box(values), &mut out, 0));
+            black_box(&out);
+        }
+    };
+    let name = if stream == 0 { "control flow" } else { "ALU" };
+    report("decode", name, timing::race(ROUNDS, || decode_all(plain_decode), || decode_all(proved::decode)));
+    report("encode", name, timing::race(ROUNDS, || encode_all(plain_encode), || encode_all(proved::encode)));
+}
+
+fn report(what: &str, name: &str, (plain, proved): (f64, f64)) {
+    let each = TIMED as f64;
+    println!(
+        "{what}, {name}: plain {:.1} ns, proved {:.1} ns, proved / plain {:.2}",
+        plain / each,
+        proved / each,
+        proved / plain
+    );
+}
