@@ -1,5 +1,1 @@
--- The laws that proofs cite, and what holds of the definitions.
-pub mod OfPut
-pub mod OfCodec
-pub mod OfValues
-pub mod Examples
+-- The laws that proofs cite.

@@ -1,3 +1,2 @@
 -- The root of what the contracts cite.
 pub mod Packed
-pub mod Values

@@ -1,0 +1,5 @@
+-- The laws that proofs cite, and what holds of the definitions.
+pub mod OfPut
+pub mod OfCodec
+pub mod OfValues
+pub mod Examples

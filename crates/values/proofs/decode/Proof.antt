@@ -1,0 +1,36 @@
+-- `values::decode` meets its contract, from what it calls. Assumes nothing.
+use borrow.Author.Needs.{needs}
+use denote.Ref.{now}
+use Rattle.values.proofs.OfCodec.{decode-refused, decode-taken}
+use Rattle.values.proofs.decode.Statement.{statement}
+use Rattle.values.proofs.decode.Tie as tie
+
+returns : tie.Need-returns
+returns c =
+    let d = c .before .before .before .before in
+    let a = d .before .before .before .before .args in
+    decode-refused (a .stream) (now (a .words)) (a .start) (now (a .values)) _ _ (d .before .stream-numbered .ensures) (d .decode .ensures)
+    _ _ (c .before .before .d .given .1) (c .number .ensures)
+
+returns-2 : tie.Need-returns-2
+returns-2 c =
+    let w = c .before .before in
+    let x = w .before .before .before in
+    let d = x .before .before in
+    let a = d .before .before .before .before .args in
+    decode-taken (a .stream) (now (a .words)) (a .start) (now (a .values)) _ _ (d .before .stream-numbered .ensures) (d .decode .ensures)
+    _ _ _ (x .d2 .given .1) (w .write .ensures .0) (w .write .ensures .1)
+
+pub decode-spec : {M : Type 1} → statement M
+decode-spec =
+    tie.close
+    (tie.spec
+    (λ c κs. tt)
+    (λ c κs. tt)
+    (λ c. search needs)
+    (λ c κs. tt)
+    (λ c. search needs)
+    (λ c κs. tt)
+    returns
+    (λ c. search needs)
+    returns-2)

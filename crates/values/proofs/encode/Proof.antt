@@ -1,0 +1,44 @@
+-- `values::encode` meets its contract, from what it calls. Assumes nothing.
+use borrow.Author.Needs.{needs}
+use native.Mathlib.Omega.{arith}
+use denote.Ref.{now}
+use Rattle.values.proofs.OfCodec.{encode-short, encode-other-form, encode-record}
+use Rattle.values.proofs.encode.Statement.{statement}
+use Rattle.values.proofs.encode.Tie as tie
+
+returns : tie.Need-returns
+returns c =
+    let a = c .before .before .before .before .args in
+    encode-short (now (a .values)) (now (a .words)) (a .start) _ (omega arith) (c .number .ensures)
+
+returns-2 : tie.Need-returns-2
+returns-2 c =
+    let r = c .before .before .before in
+    let a = r .before .before .before .args in
+    encode-other-form (now (a .values)) (now (a .words)) (a .start) _ (omega arith) (omega arith) (c .number2 .ensures)
+
+returns-3 : tie.Need-returns-3
+returns-3 c =
+    let e = c .before .before .before .before in
+    let i = e .before .before in
+    let r = i .before .before .before in
+    let a = r .before .before .before .args in
+    encode-record (now (a .values)) (now (a .words)) (a .start) _ _ _ _ _ (omega arith) (omega arith) (i .record-of .ensures)
+    (e .encode .ensures .0) (e .encode .ensures .1) (c .before .encoded-verdict .ensures) (c .verdict-number .ensures)
+
+pub encode-spec : {M : Type 1} → statement M
+encode-spec =
+    tie.close
+    (tie.spec
+    (λ c κs. tt)
+    returns
+    (λ c. search needs)
+    (λ c κs. tt)
+    returns-2
+    (λ c κs. search needs)
+    (λ c κs. tt)
+    (λ c κs. tt)
+    (λ c κs. tt)
+    (λ c. search needs)
+    (λ c. search needs)
+    returns-3)

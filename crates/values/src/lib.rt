@@ -1,0 +1,101 @@
+// The codec with rows of values: an instruction as a row of 32-bit values, its form and then its fields in AMD's order (specs/Values.antt).
+mod records;
+mod rows;
+
+use checks::Rule;
+use microcode::Decoded;
+use microcode::Instruction;
+use microcode::Stream;
+use units::Words;
+ghost use mathlib.Core.Path.{_≡_};
+ghost use Prim.Native.Nat.{_≤_};
+ghost use lib.ListN.{length};
+ghost use Rattle.checks.specs.Verdict.{numberOf, verdictNumber};
+ghost use Rattle.microcode.specs.declared.Decoded.the-variants as decoded;
+ghost use Rattle.microcode.specs.Codec.{decodedVerdict};
+ghost use Rattle.values.specs.Values.{streamNumbered, lent, after, decodedNumber, decodedValues, written, valuesOf, encodedNumber, encodedWords};
+
+// The pair at word `start`, control flow where `stream` is 0 and ALU otherwise, as values. 2, 4 and 11 are the decoder's; 20 where `values`
+// has fewer than 24 elements.
+pub fn decode(words: &[u32], start: usize, stream: u32, values: &mut [u32]) -> u32
+    ensures { λ r. ⌜ r ≡ decodedNumber stream (now (words .entry)) start (now (values .entry)) ⌝ }
+    ensures { λ r. ⌜ now (values .exit) ≡ decodedValues stream (now (words .entry)) start (now (values .entry)) ⌝ }
+{
+    let s = stream_numbered(stream);
+    let d = microcode::decode(words, Words(start), s);
+    match d {
+        Decoded::Refused(rule) => number(rule),
+        Decoded::Taken(i) => write(i, values),
+    }
+}
+
+// The record that the values hold, as two words at word `start`. 21 where it can't be encoded, or 24 elements or the form are missing;
+// 20 where the words have no room.
+pub fn encode(values: &[u32], words: &mut [u32], start: usize) -> u32
+    ensures { λ r. ⌜ r ≡ encodedNumber (now (values .entry)) (now (words .entry)) start ⌝ }
+    ensures { λ r. ⌜ now (words .exit) ≡ encodedWords (now (values .entry)) (now (words .entry)) start ⌝ }
+{
+    if values.len() < 24 {
+        return number(Rule::EncodeRecord);
+    }
+    if 4 < values[0] {
+        return number(Rule::EncodeRecord);
+    }
+    let i = records::record_of(values);
+    let e = microcode::encode(i, words, Words(start));
+    let v = microcode::encoded_verdict(e);
+    checks::verdict_number(v) as u32
+}
+
+fn stream_numbered(n: u32) -> Stream
+    ensures { λ r. ⌜ r ≡ streamNumbered n ⌝ }
+{
+    if n == 0 {
+        return Stream::ControlFlow;
+    }
+    Stream::Alu
+}
+
+fn number(rule: Rule) -> u32
+    ensures { λ r. ⌜ r ≡ numberOf rule ⌝ }
+{
+    checks::rule_number(rule) as u32
+}
+
+// The values of `i`, where there is room.
+fn write(i: Instruction, values: &mut [u32]) -> u32
+    ensures { λ r. ⌜ r ≡ verdictNumber (decodedVerdict (lent (decoded.Taken i) (now (values .entry)))) ⌝ }
+    ensures { λ r. ⌜ now (values .exit) ≡ after (lent (decoded.Taken i) (now (values .entry))) (now (values .entry)) ⌝ }
+{
+    let room = values.len();
+    if room < 24 {
+        return number(Rule::EncodeRoom);
+    }
+    fill(i, values);
+    0
+}
+
+fn fill(i: Instruction, values: &mut [u32])
+    requires { ⌜ 24 ≤ length (now values) ⌝ }
+    ensures { λ r. ⌜ now (values .exit) ≡ written (valuesOf i) (now (values .entry)) ⌝ }
+{
+    match i {
+        Instruction::CfAlu(a, b) => put(&rows::cf_alu_row(a, b), values),
+        Instruction::Cf(a, b) => put(&rows::cf_row(a, b), values),
+        Instruction::Export(a, b) => put(&rows::export_row(a, b), values),
+        Instruction::Op2(a, b) => put(&rows::op2_row(a, b), values),
+        Instruction::Op3(a, b) => put(&rows::op3_row(a, b), values),
+    }
+}
+
+// A row over the beginning of `values`.
+fn put(row: &[u32], values: &mut [u32])
+    requires { ⌜ length (now row) ≤ length (now values) ⌝ }
+    ensures { λ r. ⌜ now (values .exit) ≡ written (now (row .entry)) (now (values .entry)) ⌝ }
+{
+    let mut i = 0;
+    while i < row.len() {
+        values[i] = row[i];
+        i += 1;
+    }
+}
