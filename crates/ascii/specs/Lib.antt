@@ -1,2 +1,3 @@
 -- The root of what definitions cite.
 pub mod Ascii
+pub mod Decimal

@@ -1,1 +1,2 @@
-// Texts as bytes, for the definitions of crates that read or write text: specs/Ascii.antt. There is no code here.
+// Texts as bytes, for the definitions of crates that read or write text: quoted texts (specs/Ascii.antt) and decimal numbers (specs/Decimal.antt). There is
+// no code here.

@@ -2,7 +2,7 @@
 -- the values back where each is within its width. Assumes nothing.
 use mathlib.Core.Path.{_≡_, refl, sym, ap, ap₂, _∙_, subst}
 use mathlib.Core.List.{List, [], _∷_, map}
-use mathlib.Core.Bool.{Bool, true, false, _&&_, and-true, and-false, and-assoc}
+use mathlib.Core.Bool.{Bool, true, false, _&&_, and-true, and-false, and-assoc, false≢true, _||_}
 use Prim.Native.Nat.{ℕ, _+_, _*_, _/_, _%_, _^_, _≤_, _<_}
 use native.Mathlib.Nat.{add-mul, mul-assoc, mul-comm, mul-one, div-one, zero-mul, add-comm, zero-add, add-zero, mod-lt, mod-mod, mod-one, mod-eq-of-lt}
 use native.Mathlib.Omega.{arith}
@@ -16,7 +16,12 @@ use Rattle.bits.specs.Fields.{fieldOf, placeOf, total, unpack, pack, wit
 -- both halves of a test
 pub both : (a b : Bool) → a && b ≡ true → (a ≡ true) × (b ≡ true)
 both true b h = (refl, h)
-both false b h = let z : _≡_ {A = ℕ} 0 1 = cc in absurd (omega arith)
+both false b h = absurd (false≢true h)
+
+-- neither half of a test
+pub neither : (a b : Bool) → (a || b) ≡ false → (a ≡ false) × (b ≡ false)
+neither true b h = absurd (false≢true (sym h))
+neither false b h = (refl, h)
 
 -- ---- the same rows as digits of a number, lowest first, with no offset
 
@@ -57,8 +62,8 @@ module _ (w v : ℕ) (ws vs : List ℕ) (h : within (w ∷ ws) (v ∷ vs) ≡ tr
 
 digits-number : (ws vs : List ℕ) → within ws vs ≡ true → digits ws (number ws vs) ≡ vs
 digits-number [] [] h = refl
-digits-number [] (v ∷ vs) h = let z : _≡_ {A = ℕ} 0 1 = cc in absurd (omega arith)
-digits-number (w ∷ ws) [] h = let z : _≡_ {A = ℕ} 0 1 = cc in absurd (omega arith)
+digits-number [] (v ∷ vs) h = absurd (false≢true h)
+digits-number (w ∷ ws) [] h = absurd (false≢true h)
 digits-number (w ∷ ws) (v ∷ vs) h =
     let n = number ws vs in
     let l : v % 2 ^ w < 2 ^ w = mod-lt v (pow-pos w) in

@@ -6,7 +6,8 @@ use Prim.Native.String.{String}
 use lib.ListN.{take}
 use Rattle.card.specs.Text.{text, firstLine, behindFirst, behind, lineOf, linesLength, beginsWith, sameAs, valueOf, valueAt, wordIn, allDigits, isDecimal, digitsValue, numberOf, numberIn}
 use Rattle.card.specs.Card.{cardWith, cardOf, testOf}
-use Rattle.card.specs.Written.{digitsOf, decimal, written}
+use Rattle.ascii.specs.Decimal.{decimalWithin, decimal}
+use Rattle.card.specs.Written.{written}
 use Rattle.card.specs.declared.Kind.the-variants.{Pixel, Vertex, Geometry}
 use Rattle.card.specs.declared.Build.the-variants.{Production, Debug}
 use Rattle.card.specs.declared.Card.{Card}
@@ -71,7 +72,7 @@ cards-read = refl
 
 -- the text of a card
 copy-written : written (cardWith Pixel Production 2 0 0 0 3) ≡ copy
-unfolding written decimal digitsOf
+unfolding written decimal decimalWithin
 copy-written = refl
 
 -- cards that a caller makes, and the line out of range

@@ -11,7 +11,8 @@ use lib.Arith.{digits-lt, digits-div, digits-mod}
 use lib.Dec.{eqb, leb, ltb}
 use lib.ListN.{length, length-append}
 use Rattle.card.specs.Text.{isDigit, allDigits, isDecimal, digitsValue, numberOf}
-use Rattle.card.specs.Written.{digit, digitsOf, decimal}
+use Rattle.ascii.proofs.OfDecimal.{within-small, within-large}
+use Rattle.ascii.specs.Decimal.{digitOf, decimalWithin, decimal}
 use Rattle.card.proofs.OfTests.{both, and, split}
 
 -- ---- digits
@@ -62,27 +63,26 @@ decimal-end (x ∷ y ∷ t) b h z d =
 Reads : List ℕ → ℕ → Type 0
 Reads t n = (isDecimal t ≡ true) × (digitsValue t ≡ n)
 
-one-digit : (n : ℕ) → n < 10 → Reads (digit n ∷ []) n
+one-digit : (n : ℕ) → n < 10 → Reads (digitOf n ∷ []) n
 unfolding Reads isDecimal digitsValue
 one-digit n h = (is-digit (48 + n) (omega arith) (omega arith), omega arith)
 
-digits-read : (k n : ℕ) → n < k → Reads (digitsOf k n) n
-unfolding Reads digitsOf
+digits-read : (k n : ℕ) → n < k → Reads (decimalWithin k n) n
+unfolding Reads
 digits-read zero n h = absurd (omega arith)
 digits-read (suc k) n h = split (ltb n 10) few (many (digits-read k (n / 10)))
   where
-    few : ltb n 10 ≡ true → Reads (cond (ltb n 10) (digit n ∷ []) (digitsOf k (n / 10) ++ (digit (n % 10) ∷ []))) n
-    few e = rw e (one-digit n (ltb-true n 10 e))
+    few : ltb n 10 ≡ true → Reads (decimalWithin (suc k) n) n
+    few e = let l = ltb-true n 10 e in rw (within-small k n l) (one-digit n l)
 
-    many : (n / 10 < k → Reads (digitsOf k (n / 10)) (n / 10)) → ltb n 10 ≡ false
-        → Reads (cond (ltb n 10) (digit n ∷ []) (digitsOf k (n / 10) ++ (digit (n % 10) ∷ []))) n
+    many : (n / 10 < k → Reads (decimalWithin k (n / 10)) (n / 10)) → ltb n 10 ≡ false → Reads (decimalWithin (suc k) n) n
     many f e =
         let l : 10 ≤ n = ltb-false n 10 e in
         let w = f (omega arith) in
-        let u = digitsOf k (n / 10) in
+        let u = decimalWithin k (n / 10) in
         let b = 48 + n % 10 in
         let some-value : digitsValue u ≡ 0 → ⊥ = λ z. (omega (arith, w .1)) in
-        rw e (
+        rw (within-large k n l) (
           decimal-end u b (w .0) some-value (is-digit b (omega arith) (omega arith)),
           value-end u b ∙ (omega (arith, w .1)),
         )
@@ -142,7 +142,7 @@ first-digit b t h = both (isDigit b) (allDigits t) h .0
 
 pub decimal-all : (n : ℕ) → allDigits (decimal n) ≡ true
 unfolding decimal Reads
-decimal-all n = decimal-digits (digitsOf (suc n) n) (digits-read (suc n) n (omega arith) .0)
+decimal-all n = decimal-digits (decimalWithin (suc n) n) (digits-read (suc n) n (omega arith) .0)
 
 -- a longer one stands for more
 no-longer : (u v : List ℕ) → isDecimal u ≡ true → isDecimal v ≡ true → length u < length v → digitsValue u < digitsValue v
@@ -175,14 +175,14 @@ pub number-text : (t : List ℕ) (n : ℕ) → numberOf t ≡ some n → t ≡ d
 unfolding numberOf decimal Reads
 number-text t n h = split (isDecimal t) here never
   where
-    here : isDecimal t ≡ true → t ≡ digitsOf (suc n) n
+    here : isDecimal t ≡ true → t ≡ decimalWithin (suc n) n
     here d =
         let e : _≡_ {A = Option ℕ} (some (digitsValue t)) (some n) = sym (ap (λ (x : Bool). cond x (some (digitsValue t)) none) d) ∙ h in
         let v : digitsValue t ≡ n = cc in
         let w = digits-read (suc n) n (omega arith) in
-        decimals-same t (digitsOf (suc n) n) d (w .0) (v ∙ sym (w .1))
+        decimals-same t (decimalWithin (suc n) n) d (w .0) (v ∙ sym (w .1))
 
-    never : isDecimal t ≡ false → t ≡ digitsOf (suc n) n
+    never : isDecimal t ≡ false → t ≡ decimalWithin (suc n) n
     never d =
         let e : _≡_ {A = Option ℕ} none (some n) = sym (ap (λ (x : Bool). cond x (some (digitsValue t)) none) d) ∙ h in
         let z : _≡_ {A = ℕ} 0 1 = cc in

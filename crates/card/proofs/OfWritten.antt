@@ -13,7 +13,8 @@ use lib.Seq.{drop-append-seam}
 use Rattle.card.specs.Text.{text, found, lineFeed, firstLine, behindFirst, behind, lineOf, beginsWith, sameAs, valueOf, valueAt, wordIn, isDigit, allDigits, numberOf, numberIn}
 use Rattle.card.specs.Card.{lineSays, kinds, builds, gprsAllowed, tempsAllowed, constsAllowed, stackAllowed, quadsAllowed, cardOf, testOf}
 use Rattle.card.specs.Answers.{feedless}
-use Rattle.card.specs.Written.{decimal, kindWord, buildWord, row, written}
+use Rattle.ascii.specs.Decimal.{decimal}
+use Rattle.card.specs.Written.{kindWord, buildWord, row, written}
 use Rattle.card.specs.declared.Kind.{Kind}
 use Rattle.card.specs.declared.Kind.the-variants.{Pixel, Vertex, Geometry}
 use Rattle.card.specs.declared.Build.{Build}

@@ -1,30 +1,15 @@
 -- A card as text. No function writes one: this is the other way round of reading, for the laws of proofs/OfWritten.antt, by which
 -- the bytes of a whole card are exactly the text of that card.
-use Prim.Native.Nat.{ℕ, zero, suc, _+_, _/_, _%_}
-use Prim.Native.Char.{code}
+use Prim.Native.Nat.{ℕ}
 use Prim.Native.String.{String}
-use mathlib.Core.Bool.{cond}
-use mathlib.Core.List.{List, [], _∷_, _++_}
-use lib.Dec.{ltb}
+use mathlib.Core.List.{List, _++_}
+use Rattle.ascii.specs.Decimal.{decimal}
 use Rattle.card.specs.Text.{text}
 use Rattle.card.specs.declared.Kind.{Kind}
 use Rattle.card.specs.declared.Kind.the-variants.{Pixel, Vertex, Geometry}
 use Rattle.card.specs.declared.Build.{Build}
 use Rattle.card.specs.declared.Build.the-variants.{Production, Debug}
 use Rattle.card.specs.declared.Card.{Card}
-
--- the byte of a digit
-abbrev pub digit : ℕ → ℕ
-digit d = code "0" + d
-
--- a number in decimal, in k digits at most
-unfoldable pub digitsOf : ℕ → ℕ → List ℕ
-digitsOf zero n = []
-digitsOf (suc k) n = cond (ltb n 10) (digit n ∷ []) (digitsOf k (n / 10) ++ (digit (n % 10) ∷ []))
-
--- a number in decimal: n has at most n + 1 digits
-unfoldable pub decimal : ℕ → List ℕ
-decimal n = digitsOf (suc n) n
 
 abbrev pub kindWord : Kind → String
 kindWord Pixel = "ps"

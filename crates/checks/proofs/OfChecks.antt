@@ -28,7 +28,7 @@ pub by-broken : {P : Type 0} (t : Bool) → (t ≡ true → P) → (t ≡ false 
 by-broken true f g = f refl
 by-broken false f g = g refl
 
-never-accepted : {r : Rule} {p : Place} {s : Slots} → Refused r p s ≡ Accepted → ⊥
+pub never-accepted : {r : Rule} {p : Place} {s : Slots} → Refused r p s ≡ Accepted → ⊥
 never-accepted h = let z : _≡_ {A = ℕ} 0 1 = cc in omega arith
 
 pub first-clean : (c : Check) (cs : List Check) → firstBroken (c ∷ cs) ≡ Accepted → c .broken ≡ false

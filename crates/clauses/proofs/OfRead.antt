@@ -1,7 +1,7 @@
 -- One group, read instruction by instruction: its size, and where it lies. Assumes nothing.
 use Prim.Native.Nat.{ℕ, zero, suc, _+_, _-_, _*_, _≤_, _<_}
 use mathlib.Core.Path.{_≡_, refl, sym, ap, _∙_}
-use mathlib.Core.Bool.{Bool, true, false, cond, _||_, or-true}
+use mathlib.Core.Bool.{Bool, true, false, cond, _||_, or-true, false≢true}
 use mathlib.Core.List.{List}
 use lib.ListN.{getD}
 use lib.Dec.{ltb, eqb}
@@ -88,9 +88,8 @@ module _ (w : List ℕ) (at left : ℕ) where
       by :
           (m : ℕ) → sizeOf w at left ≡ m → (b : Bool) → ltb left (spanOf w at left) ≡ b → (eqb m 0 || b) ≡ false
           → (0 < spanOf w at left) × (spanOf w at left ≤ left)
-      by zero e b f h = let z : _≡_ {A = ℕ} 1 0 = cc in absurd (omega arith)
-      by (suc m) e true f h =
-          let y : true ≡ false = sym (or-true (eqb (suc m) 0)) ∙ h in let z : _≡_ {A = ℕ} 1 0 = cc in absurd (omega arith)
+      by zero e b f h = absurd (false≢true (sym h))
+      by (suc m) e true f h = absurd (false≢true (sym h ∙ or-true (eqb (suc m) 0)))
       by (suc m) e false f h = (omega (arith, e), ltb-false left (spanOf w at left) f)
 
   -- ---- the loop over the group's instructions

@@ -1,7 +1,7 @@
 -- A group at a glance: what is kept of it is all that has been seen, as long as nothing is broken. Assumes nothing.
 use Prim.Native.Nat.{ℕ, _+_, _<_, max}
 use mathlib.Core.Path.{_≡_, refl, sym, ap, _∙_}
-use mathlib.Core.Bool.{Bool, true, false, cond, not, _&&_, _||_}
+use mathlib.Core.Bool.{Bool, true, false, cond, not, _&&_, _||_, false≢true}
 use mathlib.Core.List.{List}
 use lib.Dec.{eqb}
 use native.Mathlib.Omega.{arith}
@@ -48,8 +48,8 @@ module _ (starts widths : List ℕ) (t : Taken) (k : Class) (u lo hi : ℕ) wher
     where
       by : (a b d : Bool) → cond a true (b || d) ≡ false → (a ≡ false) × ((b ≡ false) × (d ≡ false))
       by false false d e = (refl, (refl, e))
-      by false true d e = let z : _≡_ {A = ℕ} 1 0 = cc in absurd (omega arith)
-      by true b d e = let z : _≡_ {A = ℕ} 1 0 = cc in absurd (omega arith)
+      by false true d e = absurd (false≢true (sym e))
+      by true b d e = absurd (false≢true (sym e))
 
 -- ---- instruction by instruction
 

@@ -2,7 +2,7 @@
 -- place where it stands. By induction on the answers; a step by what stands there. Assumes nothing.
 use Prim.Native.Nat.{ℕ, zero, suc, _<_, _≤_, _-_}
 use mathlib.Core.Path.{_≡_, refl, sym, _∙_, ap, subst}
-use mathlib.Core.Bool.{Bool, true, false, not, _&&_, _||_, false≢true}
+use mathlib.Core.Bool.{Bool, true, false, not, _&&_, false≢true}
 use mathlib.Core.List.{List, [], _∷_}
 use mathlib.Core.Logic.{⊎-elim}
 use lib.ListN.{length}
@@ -10,6 +10,7 @@ use lib.Dec.{ltb}
 use borrow.Author.Tests.{ltb-false, not-false, eq-eqb, ne-eqb, le-ltb}
 use native.Mathlib.Omega.{arith}
 use native.Mathlib.Nat.{eq-or-lt-of-le}
+use Rattle.bits.proofs.OfRows.{neither}
 use Rattle.checks.specs.declared.Verdict.the-variants.{Accepted}
 use Rattle.checks.specs.Checks.{firstBroken, below}
 use Rattle.checks.proofs.OfChecks.{first-clean, rest-clean, below-each}
@@ -105,10 +106,6 @@ record Lands (e : ℕ) (code : ℕ → Flow) (m : Move) : Type 0 where
 carried : (code : ℕ → Flow) (m : Move) (t : ℕ) → m ≡ goes t (stackOf m) → carries code m ≡ true → m ≡ goes t (stackAt code t)
 unfolding carries
 carried code m t h k = h ∙ ap (goes t) (same-is (stackOf m) (stackAt code t) (sym (ap (carries code) h) ∙ k))
-
-neither : (a b : Bool) → (a || b) ≡ false → (a ≡ false) × (b ≡ false)
-neither true b h = absurd (false≢true (sym h))
-neither false b h = (refl, h)
 
 nothing : (s : Stack) → length s ≤ 0 → s ≡ []
 nothing [] l = refl

@@ -1,7 +1,7 @@
 -- The judgement, from what the judge's parts answer. Assumes nothing.
 use mathlib.Core.Path.{_≡_, refl, sym, ap, _∙_, subst}
 use mathlib.Core.Bool.{Bool, true, false, cond, not}
-use mathlib.Core.List.{List, [], _∷_, _++_}
+use mathlib.Core.List.{List, [], _∷_}
 use Prim.Native.Nat.{ℕ, suc, _+_, _-_}
 use native.Mathlib.Omega.{arith}
 use native.Mathlib.Numerals.{add-one}
@@ -15,7 +15,7 @@ use Rattle.checks.specs.declared.Place.the-variants.{Whole, Line}
 use Rattle.checks.specs.declared.Verdict.{Verdict}
 use Rattle.checks.specs.declared.Verdict.the-variants.{Accepted, Refused}
 use Rattle.checks.specs.Checks.{check, firstBroken, below, Unbroken, BrokenFirst}
-use Rattle.checks.proofs.OfChecks.{hit, miss, joined-clean, joined-refused, accepted-exactly-if, refused-exactly-if}
+use Rattle.checks.proofs.OfChecks.{never-accepted, hit, miss, joined-clean, joined-refused, accepted-exactly-if, refused-exactly-if}
 use mathlib.Core.Logic.{_↔_}
 use Rattle.card.specs.declared.Card.{Card}
 use Rattle.card.specs.declared.CardTest.{CardTest}
@@ -72,9 +72,6 @@ unfolding testOf
 lines-are card = by-lines (figureTests card)
 
 -- ---- the judge's answers
-
-never-accepted : {r : Rule} {p : Place} {s : Slots} → Refused r p s ≡ Accepted → ⊥
-never-accepted h = let z : _≡_ {A = ℕ} 0 1 = cc in omega arith
 
 -- both clauses of the judge's contract
 abbrev Meets : Card → List ℕ → Verdict → Type 0

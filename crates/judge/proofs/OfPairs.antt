@@ -6,7 +6,6 @@ use Prim.Native.Nat.{ℕ}
 use Rattle.units.specs.declared.Quadwords.{Quadwords}
 use Rattle.units.specs.declared.Slots.{Slots}
 use Rattle.units.specs.Units.{slots}
-use Rattle.checks.specs.declared.Rule.{Rule}
 use Rattle.checks.specs.declared.Rule.the-variants.{CfNumber, CfField, ClauseRange, ExportField}
 use Rattle.checks.specs.declared.Place.the-variants.{Quadword}
 use Rattle.checks.specs.declared.Verdict.{Verdict}
@@ -14,7 +13,6 @@ use Rattle.checks.specs.declared.Verdict.the-variants.{Accepted, Refused}
 use Rattle.checks.specs.Checks.{check, firstBroken}
 use Rattle.checks.proofs.OfChecks.{hit, miss}
 use Rattle.card.specs.declared.Card.{Card}
-use Rattle.card.specs.declared.Kind.{Kind}
 use Rattle.grants.specs.declared.Limits.{Limits}
 use Rattle.fetches.specs.declared.FetchKind.{FetchKind}
 use Rattle.fetches.specs.Fetches as fetches

@@ -12,7 +12,7 @@ use Rattle.checks.specs.declared.Place.{Place}
 use Rattle.checks.specs.declared.Verdict.{Verdict}
 use Rattle.checks.specs.declared.Verdict.the-variants.{Accepted, Refused}
 use Rattle.checks.specs.Checks.{firstBroken, below}
-use Rattle.checks.proofs.OfChecks.{joined-clean, joined-refused, below-none, below-next, below-found}
+use Rattle.checks.proofs.OfChecks.{never-accepted, joined-clean, joined-refused, below-none, below-next, below-found}
 use Rattle.card.specs.declared.Card.{Card}
 use Rattle.control.specs.declared.Control.{Control}
 use Rattle.control.specs.Control.{lowAt, highAt, controlOf, controlAt}
@@ -84,9 +84,6 @@ passing-none card w e tops marks =
       clean-below = below-none (firstChecks card w e);
       ready = record { held = held-start (flowAt w); not-deep = omega arith; recorded = recorded-none (flowAt w) tops marks };
     }
-
-never-accepted : {r : Rule} {p : Place} {s : Slots} → Refused r p s ≡ Accepted → ⊥
-never-accepted h = let z : _≡_ {A = ℕ} 0 1 = cc in omega arith
 
 module _ (card : Card) (w : List ℕ) (e : ℕ) (tops₀ marks₀ tops marks : List ℕ) (s : Frames) (p : ℕ)
     (g : Passing card w e tops₀ marks₀ tops marks s p) where

@@ -1,19 +1,19 @@
 -- Demand 3: the walk of an accepted pack, along any list of answers, is safe. The flow of control is `flow`'s part; here is what lies at
 -- each place of the section. Assumes nothing.
-use mathlib.Core.Path.{_≡_, refl, sym}
-use mathlib.Core.Bool.{Bool, true, false, not, _||_, false≢true}
+use mathlib.Core.Path.{_≡_, refl}
+use mathlib.Core.Bool.{true, false, not}
 use mathlib.Core.List.{List, [], _∷_, _++_, List·Memᴰ, List·Memᴰ·head, List·Memᴰ·tail, List·Memᴰ·not-nil, List·Memᴰ·cases-cons}
 use mathlib.Core.Logic.{_⊎_, inl, inr, ⊎-elim}
 use Prim.Native.Nat.{ℕ, zero, suc, _+_, _-_, _*_, _≤_, _<_, _^_, min}
 use native.Mathlib.Omega.{arith}
 use native.Mathlib.Nat.{le-refl, le-step}
 use lib.ListN.{length}
-use lib.Dec.{ltb, leb}
 use borrow.Author.Tests.{ltb-true, leb-true, le-leb, not-false}
+use Rattle.bits.proofs.OfRows.{neither}
 use Rattle.units.specs.declared.Quadwords.{Quadwords}
-use Rattle.units.specs.Units.{quadwords, slots, slotsLength, fetchesLength, rangeEnd, isBelow, isAtMost}
+use Rattle.units.specs.Units.{quadwords, slotsLength, fetchesLength, rangeEnd, isBelow, isAtMost}
 use Rattle.checks.specs.declared.Verdict.the-variants.{Accepted}
-use Rattle.checks.specs.Checks.{check, firstBroken, below}
+use Rattle.checks.specs.Checks.{firstBroken, below}
 use Rattle.checks.proofs.OfChecks.{first-clean, rest-clean, left-clean, right-clean, below-each}
 use Rattle.card.specs.declared.Card.{Card}
 use Rattle.card.specs.Card.{figureTests, Ranges}
@@ -62,10 +62,6 @@ module _ {P : Name → Type 0} where
       (in-joined (f g) (namesOfEach f gs) m)
 
 -- ---- a clause that rule 6 lets through
-
-neither : (a b : Bool) → (a || b) ≡ false → (a ≡ false) × (b ≡ false)
-neither true b h = absurd (false≢true (sym h))
-neither false b h = (refl, h)
 
 module _ (e : ℕ) (quads : Quadwords) (few : quads .0 ≤ 8192) where
   -- quads is small, so a sum that was cut short is not within it

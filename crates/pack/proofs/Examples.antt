@@ -7,7 +7,7 @@ use Rattle.card.specs.Text.{text, firstLine, behindFirst, behind, lineOf, lines
 use Rattle.card.specs.Card.{cardWith, cardOf}
 use Rattle.card.specs.declared.Kind.the-variants.{Pixel}
 use Rattle.card.specs.declared.Build.the-variants as build
-use Rattle.report.specs.Text.{decimal, decimalWithin}
+use Rattle.ascii.specs.Decimal.{decimal, decimalWithin}
 use Rattle.report.specs.Report.{reportLines, reportBytes}
 use Rattle.report.specs.declared.ReportBuild.the-variants.{Unknown, Production, Debug}
 use Rattle.judge.specs.Judge.{judgement}

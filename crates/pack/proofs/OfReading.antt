@@ -18,7 +18,8 @@ use Rattle.card.specs.Card.{lineSays, kinds, builds, gprsAllowed, tempsAllowed,
 use Rattle.card.specs.declared.CardRead.{CardRead}
 use Rattle.card.specs.declared.CardRead.the-variants.{Whole}
 use Rattle.card.specs.declared.Card.{Card}
-use Rattle.card.specs.Written.{digit, digitsOf, decimal}
+use Rattle.ascii.proofs.OfDecimal.{within-small, within-large}
+use Rattle.ascii.specs.Decimal.{digitOf, decimalWithin, decimal}
 use Rattle.card.proofs.OfTests.{both}
 use Rattle.card.proofs.OfLines.{lines-place}
 use Rattle.card.proofs.OfRows.{card-lines}
@@ -144,16 +145,16 @@ word-short most (x ∷ ws) w v a h = by (sameAs v (text (x .0))) refl h (word-sh
     by false e h f = f h
 
 -- a number below ten to the power d + 1 has at most d + 1 digits
-digits-short : (d k n : ℕ) → n < 10 ^ suc d → length (digitsOf k n) ≤ suc d
-unfolding digitsOf
+digits-short : (d k n : ℕ) → n < 10 ^ suc d → length (decimalWithin k n) ≤ suc d
+unfolding decimalWithin
 digits-short d zero n h = omega arith
-digits-short zero (suc k) n h = rw (lt-ltb n 10 h) (omega arith)
-digits-short (suc d) (suc k) n h = by (ltb n 10) (digits-short d k (n / 10) (omega (arith, pow-suc 10 (suc d))))
+digits-short zero (suc k) n h = omega (arith, ap length (within-small k n h))
+digits-short (suc d) (suc k) n h = by (ltb n 10) refl (digits-short d k (n / 10) (omega (arith, pow-suc 10 (suc d))))
   where
-    by : (x : Bool) → length (digitsOf k (n / 10)) ≤ suc d
-        → length (cond x (digit n ∷ []) (digitsOf k (n / 10) ++ (digit (n % 10) ∷ []))) ≤ suc (suc d)
-    by true f = omega arith
-    by false f = omega (arith, length-append (digitsOf k (n / 10)) (digit (n % 10) ∷ []))
+    by : (x : Bool) → ltb n 10 ≡ x → length (decimalWithin k (n / 10)) ≤ suc d → length (decimalWithin (suc k) n) ≤ suc (suc d)
+    by true e f = omega (arith, ap length (within-small k n (ltb-true n 10 e)))
+    by false e f =
+        omega (arith, ap length (within-large k n (ltb-false n 10 e)), length-append (decimalWithin k (n / 10)) (digitOf (n % 10) ∷ []))
 
 number-short : (d : ℕ) (allowed : ℕ → Bool) → ((n : ℕ) → allowed n ≡ true → n < 10 ^ suc d) → (v : List ℕ) (n : ℕ)
     → numberIn allowed v ≡ some n → length v ≤ suc d

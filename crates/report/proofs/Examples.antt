@@ -9,7 +9,8 @@ use Rattle.checks.specs.declared.Verdict.{Verdict}
 use Rattle.checks.specs.declared.Verdict.the-variants.{Accepted, Refused}
 use Rattle.report.specs.declared.ReportBuild.the-variants.{Production, Debug}
 use Rattle.report.specs.declared.Written.the-variants.{Length, TooSmall}
-use Rattle.report.specs.Text.{ascii, decimal, decimalWithin}
+use Rattle.ascii.specs.Decimal.{decimal, decimalWithin}
+use Rattle.report.specs.Text.{ascii}
 use Rattle.report.specs.Report.{reportLines, reportBytes}
 use Rattle.report.specs.Buffer.{writtenOf, bufferAfter}
 

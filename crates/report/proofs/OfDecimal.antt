@@ -12,17 +12,11 @@ use borrow.Author.Tests.{lt-ltb, le-ltb, ltb-true, ltb-false}
 use lib.Dec.{ltb, lit≤}
 use lib.ListN.{length, getD, take, drop, set, length-append, length-drop, length-set, List·getD-append}
 use lib.Seq.{take-all, drop-length, drop-cons, drop-set-lt, getD-set-same}
-use Rattle.report.specs.Text.{ascii, digitOf, decimalWithin, decimal, readAfter}
+use Rattle.ascii.proofs.OfDecimal.{within-small, within-large}
+use Rattle.ascii.specs.Decimal.{digitOf, decimalWithin, decimal}
+use Rattle.report.specs.Text.{ascii, readAfter}
 
 -- ---- one step of the definition
-
-within-small : (most n : ℕ) → n < 10 → decimalWithin (suc most) n ≡ digitOf n ∷ []
-unfolding decimalWithin
-within-small most n h = rw (lt-ltb n 10 h, decimalWithin)
-
-within-large : (most n : ℕ) → 10 ≤ n → decimalWithin (suc most) n ≡ decimalWithin most (n / 10) ++ (digitOf (n % 10) ∷ [])
-unfolding decimalWithin
-within-large most n h = rw (le-ltb n 10 h, decimalWithin)
 
 -- below 10 or not
 by-digit : {P : Type 0} (n : ℕ) → (n < 10 → P) → (10 ≤ n → P) → P

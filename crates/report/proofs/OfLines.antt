@@ -8,7 +8,7 @@ use Rattle.checks.specs.declared.Verdict.{Verdict}
 use Rattle.checks.specs.Verdict.{verdictNumber, verdictPlace, verdictSlot}
 use Rattle.report.specs.declared.ReportBuild.{ReportBuild}
 use Rattle.report.specs.declared.ReportBuild.the-variants.{Unknown}
-use Rattle.report.specs.Text.{decimal}
+use Rattle.ascii.specs.Decimal.{decimal}
 use Rattle.report.specs.Report.{line, shownBuild, buildText, released, yesOrNo, reportLines, reportBytes}
 use Rattle.report.specs.Buffer.{Appended}
 use Rattle.report.proofs.OfBuffer.{none-appended, both-appended, as-bytes}

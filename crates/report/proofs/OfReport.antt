@@ -20,7 +20,8 @@ use Rattle.checks.proofs.OfVerdict.{accepted-zero}
 use Rattle.checks.specs.Verdict.{verdictNumber, verdictPlace, verdictSlot}
 use Rattle.report.specs.declared.ReportBuild.{ReportBuild}
 use Rattle.report.specs.declared.ReportBuild.the-variants.{Unknown, Production, Debug}
-use Rattle.report.specs.Text.{ascii, decimal}
+use Rattle.ascii.specs.Decimal.{decimal}
+use Rattle.report.specs.Text.{ascii}
 use Rattle.report.specs.Report.{line, shownBuild, buildText, released, yesOrNo, reportLines, joined, reportBytes, beforeFirst, linesOf}
 use Rattle.report.proofs.OfDecimal.{each-digit, at-most-20-digits}
 

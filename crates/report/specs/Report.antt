@@ -9,7 +9,8 @@ use Rattle.checks.specs.declared.Verdict.{Verdict}
 use Rattle.checks.specs.Verdict.{verdictNumber, verdictPlace, verdictSlot}
 use Rattle.report.specs.declared.ReportBuild.{ReportBuild}
 use Rattle.report.specs.declared.ReportBuild.the-variants.{Unknown, Production, Debug}
-use Rattle.report.specs.Text.{ascii, decimal}
+use Rattle.ascii.specs.Decimal.{decimal}
+use Rattle.report.specs.Text.{ascii}
 
 -- a line key=value
 abbrev pub line : String → List ℕ → List ℕ

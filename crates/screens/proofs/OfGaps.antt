@@ -1,7 +1,7 @@
 -- The gaps by what the code tests, and what they say of rules 12 and 15: an instruction that they let through breaks neither. Assumes
 -- nothing.
 use mathlib.Core.Path.{_≡_, refl, sym, ap, _∙_}
-use mathlib.Core.Bool.{Bool, true, false, cond, _&&_, _||_}
+use mathlib.Core.Bool.{Bool, true, false, cond, _&&_, _||_, false≢true}
 use mathlib.Core.List.{List, [], _∷_, _++_}
 use Prim.Native.Nat.{ℕ, zero, suc, _+_, _-_, _*_, _/_, _%_, _^_, _≤_, _<_, min, max}
 use native.Mathlib.Omega.{arith}
@@ -9,6 +9,7 @@ use lib.Dec.{eqb, ltb, leb}
 use lib.ListN.{getD, drop}
 use borrow.Author.Tests.{ltb-true, ltb-false, le-leb}
 use Rattle.bits.specs.Fields.{fieldOf}
+use Rattle.bits.proofs.OfRows.{neither}
 use Rattle.grants.specs.declared.Limits.{Limits}
 use Rattle.grants.specs.Grants.{Name, aluRegister, set0, set1, constant, locked, granted, allGranted, sourceNames}
 use Rattle.grants.proofs.OfGrants.{locked-most, all-joined}
@@ -33,9 +34,9 @@ no-literal n lo hi =
         → n ≡ max n (max (max (cond a (fieldOf lo 10 2 / 2 + 1) 0) (cond b (fieldOf lo 23 2 / 2 + 1) 0)) (cond d (cond e (fieldOf hi 10 2 / 2 + 1) 0) 0))
     by false false false e h = omega arith
     by false false true false h = omega arith
-    by false false true true h = let z : _≡_ {A = ℕ} 1 0 = cc in absurd (omega arith)
-    by false true d e h = let z : _≡_ {A = ℕ} 1 0 = cc in absurd (omega arith)
-    by true b d e h = let z : _≡_ {A = ℕ} 1 0 = cc in absurd (omega arith)
+    by false false true true h = absurd (false≢true (sym h))
+    by false true d e h = absurd (false≢true (sym h))
+    by true b d e h = absurd (false≢true (sym h))
 
 -- ---- one instruction, test by test
 
@@ -263,17 +264,13 @@ module _ (n : ℕ) where
   source1-bits : fieldOf n 13 10 ≡ fieldOf n 13 9 + 512 * fieldOf n 22 1
   source1-bits = omega arith
 
-neither : (a b : Bool) → (a || b) ≡ false → (a ≡ false) × (b ≡ false)
-neither false b h = (refl, h)
-neither true b h = let z : _≡_ {A = ℕ} 1 0 = cc in absurd (omega arith)
-
 tests-false :
     (a b d e : Bool) → cond a true (cond b true (cond d true e)) ≡ false
     → (a ≡ false) × ((b ≡ false) × ((d ≡ false) × (e ≡ false)))
 tests-false false false false e h = (refl, (refl, (refl, h)))
-tests-false false false true e h = let z : _≡_ {A = ℕ} 1 0 = cc in absurd (omega arith)
-tests-false false true d e h = let z : _≡_ {A = ℕ} 1 0 = cc in absurd (omega arith)
-tests-false true b d e h = let z : _≡_ {A = ℕ} 1 0 = cc in absurd (omega arith)
+tests-false false false true e h = absurd (false≢true (sym h))
+tests-false false true d e h = absurd (false≢true (sym h))
+tests-false true b d e h = absurd (false≢true (sym h))
 
 module _ (l : Limits) (lo hi : ℕ) (h : brokenBy (startsOf l) (widthsOf l) lo hi ≡ false) where
   asked :
@@ -319,7 +316,7 @@ module _ (l : Limits) (lo hi : ℕ) (h : brokenBy (startsOf l) (widthsOf l) lo h
           → allGranted l (cond b (aluRegister (fieldOf hi 21 7) ∷ []) []) ≡ true
       by false e p q = refl
       by true false p q = ap (λ (t : Bool). t && true) (register-clear l (fieldOf hi 21 7) p (omega arith))
-      by true true p q = let z : _≡_ {A = ℕ} 1 0 = cc in absurd (omega arith)
+      by true true p q = absurd (false≢true (sym q))
 
   -- an instruction that the gaps let through breaks neither rule 12
   pub unbroken-field : badField lo hi ≡ false

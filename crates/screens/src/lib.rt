@@ -1,7 +1,7 @@
 // One ALU instruction at a glance: whether it breaks rule 12 or 15 by itself, in as few steps as an accepted instruction needs.
 //
-// The sources that these rules refuse are gaps among the 1,024 values that SEL and REL have together, and no 32 values in a row have two of
-// them: so a source is looked up in a table of gaps, which is made once for a clause. Which rule is broken, and where, is left to
+// The sources that these rules refuse are gaps among the 1,024 values that SEL and REL have together, and each row of 32 values has one at
+// most: so a source is looked up in a table of gaps, which is made once for a clause. Which rule is broken, and where, is left to
 // `groups`. Branches go by what an accepted pack never has, so that each of them is foreseen.
 use bits::field;
 use grants::Limits;
@@ -15,7 +15,7 @@ ghost use Rattle.bits.specs.Fields.{fieldOf};
 ghost use Rattle.instructions.specs.Instruction as instruction;
 ghost use Rattle.screens.specs.Gaps.{byRow, startsOf, widthsOf, isAmong, inGap, namesDestination, asksLiteral, brokenBy};
 
-// A number for each 32 values: registers, the two sets of locked constants, what is reserved among the inline constants, the constant
+// A number for each row: registers, the two sets of locked constants, what is reserved among the inline constants, the constant
 // file; then, with REL set, the inline constants.
 fn by_row(regs: u32, set0: u32, set1: u32, inline: u32, consts: u32, rel: u32) -> [u32; 32]
     ensures { λ r. ⌜ r ≡ byRow regs set0 set1 inline consts rel ⌝ }
@@ -62,6 +62,7 @@ fn smaller(a: u32, b: u32) -> u32
     if a < b { a } else { b }
 }
 
+// a less b, or 0.
 fn less(a: u32, b: u32) -> u32
     ensures { λ r. ⌜ r ≡ a - b ⌝ }
 {

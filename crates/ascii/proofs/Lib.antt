@@ -1,0 +1,2 @@
+-- The laws that proofs cite in the crates above.
+pub mod OfDecimal
