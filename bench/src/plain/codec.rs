@@ -1,6 +1,6 @@
 //! Decoder and encoder of the taken pairs, between words and rows of values: the form (0 CF_ALU, 1 CF, 2 export, 3 OP2,
 //! 4 OP3), then each field from the lowest bit of the low word up. Bits are as chapter 10 gives them, high:low; unlike the judge's
-//! files, this one was written by someone who knew the proved code.
+//! files, this one has its order of values and of answers from the proved code.
 
 use super::opcodes::{UNTAKEN, class_of};
 
