@@ -1,17 +1,19 @@
-//! Points the linker at the archive that `rt staticlib exports` leaves at the root of the repository.
+//! Points the linker at the archives that `rt staticlib exports` and `rt staticlib values` leave at the root of the repository.
 
 use std::path::Path;
 
 fn main() {
     let root = Path::new(env!("CARGO_MANIFEST_DIR")).join("..");
     let folder = root.join("target").join("staticlib");
-    let archive = folder.join("libexports.a");
-    println!("cargo:rerun-if-changed={}", archive.display());
-    if !archive.is_file() {
-        eprintln!("error: {} is missing", archive.display());
-        eprintln!("note: make it first, at the root of the repository, with `rt staticlib exports`");
-        std::process::exit(1);
+    for library in ["exports", "values"] {
+        let archive = folder.join(format!("lib{library}.a"));
+        println!("cargo:rerun-if-changed={}", archive.display());
+        if !archive.is_file() {
+            eprintln!("error: {} is missing", archive.display());
+            eprintln!("note: make it first, at the root of the repository, with `rt staticlib {library}`");
+            std::process::exit(1);
+        }
+        println!("cargo:rustc-link-lib=static={library}");
     }
     println!("cargo:rustc-link-search=native={}", folder.display());
-    println!("cargo:rustc-link-lib=static=exports");
 }

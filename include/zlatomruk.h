@@ -1,6 +1,7 @@
-/* Functions of the proved judge and codec, for C and C++ on x86-64. `rt staticlib exports` writes target/staticlib/libexports.a; link
- * that. Nothing is allocated, and any arguments get an answer: each pointer is read for as many elements as the length behind it says
- * (it may be anything where the length is 0). Only the codec writes, and only to what is not const; that must not overlap the rest. */
+/* Functions of the proved judge and codec, for C and C++ on x86-64. `rt staticlib exports` writes target/staticlib/libexports.a, which has
+ * the judge, and `rt staticlib values` libvalues.a beside it, which has the codec; link what you call. Nothing is allocated, and any
+ * arguments get an answer: each pointer is read for as many elements as the length behind it says (it may be anything where the length
+ * is 0). Only the codec writes, and only to what is not const; that must not overlap the rest. */
 #ifndef ZLATOMRUK_H
 #define ZLATOMRUK_H
 

@@ -1,4 +1,4 @@
-//! The proved functions, from the archive that `rt staticlib exports` makes. They ask nothing of their caller.
+//! The proved functions, from the archives that `rt staticlib exports` and `rt staticlib values` make. They ask nothing of their caller.
 
 use crate::plain::Kind;
 

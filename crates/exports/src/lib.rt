@@ -1,4 +1,4 @@
-// Functions for C and Rust to link, by `rt staticlib exports`: the judge and the codec.
+// Functions for C and Rust to link, by `rt staticlib exports`: the judge. The codec is in crate values.
 //
 // A slice is passed as a pointer and a length. A verdict comes back as one number (specs/Packed.antt).
 use card::Kind;
@@ -13,7 +13,6 @@ ghost use Rattle.units.specs.Units as counts;
 ghost use Rattle.checks.specs.Checks.{firstBroken};
 ghost use Rattle.clauses.specs.Clause.{clauseChecks};
 ghost use Rattle.judge.specs.Judge.{judgementOfBytes};
-ghost use Rattle.values.specs.Values.{decodedNumber, decodedValues, encodedNumber, encodedWords};
 ghost use Rattle.exports.specs.Packed.{packed, kindOf, limitsOf};
 
 // The verdict on a pack by a card in bytes.
@@ -58,30 +57,6 @@ pub extern "C" fn zlatomruk_alu_clause(
         limits,
     );
     pack(v)
-}
-
-// The pair at word `start`, control flow where `stream` is 0 and ALU otherwise, as values (crate values). The number is 0, the decoder's 2,
-// 4 or 11, or 20 where `values` has fewer than 24 elements.
-#[no_mangle]
-pub extern "C" fn zlatomruk_decode(
-    words: &[u32],
-    start: usize,
-    stream: u32,
-    values: &mut [u32],
-) -> u32
-    ensures { λ r. ⌜ r ≡ decodedNumber stream (now (words .entry)) start (now (values .entry)) ⌝ }
-    ensures { λ r. ⌜ now (values .exit) ≡ decodedValues stream (now (words .entry)) start (now (values .entry)) ⌝ }
-{
-    values::decode(words, start, stream, values)
-}
-
-// The record that the values hold, as two words at word `start`. The number is 0, 21 or 20.
-#[no_mangle]
-pub extern "C" fn zlatomruk_encode(values: &[u32], words: &mut [u32], start: usize) -> u32
-    ensures { λ r. ⌜ r ≡ encodedNumber (now (values .entry)) (now (words .entry)) start ⌝ }
-    ensures { λ r. ⌜ now (words .exit) ≡ encodedWords (now (values .entry)) (now (words .entry)) start ⌝ }
-{
-    values::encode(values, words, start)
 }
 
 fn pack(v: Verdict) -> u64

@@ -1,4 +1,5 @@
-// The codec with rows of values: an instruction as a row of 32-bit values, its form and then its fields in AMD's order (specs/Values.antt).
+// The codec for C and Rust to link, by `rt staticlib values`: an instruction as a row of 32-bit values, its form and then its fields in
+// AMD's order (specs/Values.antt).
 mod records;
 mod rows;
 
@@ -17,7 +18,13 @@ ghost use Rattle.values.specs.Values.{streamNumbered, lent, after, decod
 
 // The pair at word `start`, control flow where `stream` is 0 and ALU otherwise, as values. 2, 4 and 11 are the decoder's; 20 where `values`
 // has fewer than 24 elements.
-pub fn decode(words: &[u32], start: usize, stream: u32, values: &mut [u32]) -> u32
+#[no_mangle]
+pub extern "C" fn zlatomruk_decode(
+    words: &[u32],
+    start: usize,
+    stream: u32,
+    values: &mut [u32],
+) -> u32
     ensures { λ r. ⌜ r ≡ decodedNumber stream (now (words .entry)) start (now (values .entry)) ⌝ }
     ensures { λ r. ⌜ now (values .exit) ≡ decodedValues stream (now (words .entry)) start (now (values .entry)) ⌝ }
 {
@@ -31,7 +38,8 @@ pub fn decode(words: &[u32], start: usize, stream: u32, values: &mut [u32]) -> u
 
 // The record that the values hold, as two words at word `start`. 21 where it can't be encoded, or 24 elements or the form are missing;
 // 20 where the words have no room.
-pub fn encode(values: &[u32], words: &mut [u32], start: usize) -> u32
+#[no_mangle]
+pub extern "C" fn zlatomruk_encode(values: &[u32], words: &mut [u32], start: usize) -> u32
     ensures { λ r. ⌜ r ≡ encodedNumber (now (values .entry)) (now (words .entry)) start ⌝ }
     ensures { λ r. ⌜ now (words .exit) ≡ encodedWords (now (values .entry)) (now (words .entry)) start ⌝ }
 {

@@ -1,10 +1,10 @@
--- `values::encode` meets its contract, from what it calls. Assumes nothing.
+-- `values::zlatomruk_encode` meets its contract, from what it calls. Assumes nothing.
 use borrow.Author.Needs.{needs}
 use native.Mathlib.Omega.{arith}
 use denote.Ref.{now}
 use Rattle.values.proofs.OfCodec.{encode-short, encode-other-form, encode-record}
-use Rattle.values.proofs.encode.Statement.{statement}
-use Rattle.values.proofs.encode.Tie as tie
+use Rattle.values.proofs.zlatomruk_encode.Statement.{statement}
+use Rattle.values.proofs.zlatomruk_encode.Tie as tie
 
 returns : tie.Need-returns
 returns c =
@@ -26,8 +26,8 @@ returns-3 c =
     encode-record (now (a .values)) (now (a .words)) (a .start) _ _ _ _ _ (omega arith) (omega arith) (i .record-of .ensures)
     (e .encode .ensures .0) (e .encode .ensures .1) (c .before .encoded-verdict .ensures) (c .verdict-number .ensures)
 
-pub encode-spec : {M : Type 1} → statement M
-encode-spec =
+pub zlatomruk-encode-spec : {M : Type 1} → statement M
+zlatomruk-encode-spec =
     tie.close
     (tie.spec
     (λ c κs. tt)

@@ -1,9 +1,9 @@
--- `values::decode` meets its contract, from what it calls. Assumes nothing.
+-- `values::zlatomruk_decode` meets its contract, from what it calls. Assumes nothing.
 use borrow.Author.Needs.{needs}
 use denote.Ref.{now}
 use Rattle.values.proofs.OfCodec.{decode-refused, decode-taken}
-use Rattle.values.proofs.decode.Statement.{statement}
-use Rattle.values.proofs.decode.Tie as tie
+use Rattle.values.proofs.zlatomruk_decode.Statement.{statement}
+use Rattle.values.proofs.zlatomruk_decode.Tie as tie
 
 returns : tie.Need-returns
 returns c =
@@ -21,8 +21,8 @@ returns-2 c =
     decode-taken (a .stream) (now (a .words)) (a .start) (now (a .values)) _ _ (d .before .stream-numbered .ensures) (d .decode .ensures)
     _ _ _ (x .d2 .given .1) (w .write .ensures .0) (w .write .ensures .1)
 
-pub decode-spec : {M : Type 1} → statement M
-decode-spec =
+pub zlatomruk-decode-spec : {M : Type 1} → statement M
+zlatomruk-decode-spec =
     tie.close
     (tie.spec
     (λ c κs. tt)
