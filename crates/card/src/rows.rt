@@ -28,7 +28,7 @@ pub enum BuildRead {
     Wrong,
 }
 
-pub fn kind_line(bytes: &[u8], start: usize) -> KindRead
+pub(crate) fn kind_line(bytes: &[u8], start: usize) -> KindRead
     requires { ⌜ start ≡ linesLength 0 (now bytes) ⌝ }
     ensures { λ r. ⌜ r ≡ kindRead (lineSays (now (bytes .entry)) 1 "kind" (wordIn kinds)) (linesLength 1 (now (bytes .entry))) ⌝ }
 {
@@ -47,7 +47,7 @@ pub fn kind_line(bytes: &[u8], start: usize) -> KindRead
     KindRead::Wrong
 }
 
-pub fn build_line(bytes: &[u8], start: usize) -> BuildRead
+pub(crate) fn build_line(bytes: &[u8], start: usize) -> BuildRead
     requires { ⌜ start ≡ linesLength 1 (now bytes) ⌝ }
     ensures { λ r. ⌜ r ≡ buildRead (lineSays (now (bytes .entry)) 2 "build" (wordIn builds)) (linesLength 2 (now (bytes .entry))) ⌝ }
 {
@@ -75,7 +75,7 @@ fn number_line(bytes: &[u8], start: usize, key: &[u8], limits: Limits) -> Figure
     text::number(bytes, value, limits)
 }
 
-pub fn gprs_line(bytes: &[u8], start: usize) -> Figure
+pub(crate) fn gprs_line(bytes: &[u8], start: usize) -> Figure
     requires { ⌜ start ≡ linesLength 2 (now bytes) ⌝ }
     ensures { λ r. ⌜ r ≡ figureRead (lineSays (now (bytes .entry)) 3 "gprs" (numberIn gprsAllowed)) (linesLength 3 (now (bytes .entry))) ⌝ }
 {
@@ -83,7 +83,7 @@ pub fn gprs_line(bytes: &[u8], start: usize) -> Figure
 }
 
 // temps by itself first, and with `gprs` only then.
-pub fn temps_line(bytes: &[u8], start: usize, gprs: u32) -> Figure
+pub(crate) fn temps_line(bytes: &[u8], start: usize, gprs: u32) -> Figure
     requires { ⌜ start ≡ linesLength 3 (now bytes) ⌝ }
     ensures { λ r. ⌜ r ≡ figureRead (lineSays (now (bytes .entry)) 4 "temps" (numberIn (tempsAllowed gprs))) (linesLength 4 (now (bytes .entry))) ⌝ }
 {
@@ -96,21 +96,21 @@ pub fn temps_line(bytes: &[u8], start: usize, gprs: u32) -> Figure
     Figure::Wrong
 }
 
-pub fn consts_line(bytes: &[u8], start: usize) -> Figure
+pub(crate) fn consts_line(bytes: &[u8], start: usize) -> Figure
     requires { ⌜ start ≡ linesLength 4 (now bytes) ⌝ }
     ensures { λ r. ⌜ r ≡ figureRead (lineSays (now (bytes .entry)) 5 "consts" (numberIn constsAllowed)) (linesLength 5 (now (bytes .entry))) ⌝ }
 {
     number_line(bytes, start, b"consts=", limits::CONSTS)
 }
 
-pub fn stack_line(bytes: &[u8], start: usize) -> Figure
+pub(crate) fn stack_line(bytes: &[u8], start: usize) -> Figure
     requires { ⌜ start ≡ linesLength 5 (now bytes) ⌝ }
     ensures { λ r. ⌜ r ≡ figureRead (lineSays (now (bytes .entry)) 6 "stack" (numberIn stackAllowed)) (linesLength 6 (now (bytes .entry))) ⌝ }
 {
     number_line(bytes, start, b"stack=", limits::STACK)
 }
 
-pub fn quads_line(bytes: &[u8], start: usize) -> Figure
+pub(crate) fn quads_line(bytes: &[u8], start: usize) -> Figure
     requires { ⌜ start ≡ linesLength 6 (now bytes) ⌝ }
     ensures { λ r. ⌜ r ≡ figureRead (lineSays (now (bytes .entry)) 7 "quads" (numberIn quadsAllowed)) (linesLength 7 (now (bytes .entry))) ⌝ }
 {

@@ -44,7 +44,7 @@ fn begins_with(text: &[u8], key: &[u8]) -> bool
 }
 
 // The place behind `key`, where it stands at `start`.
-pub fn behind(bytes: &[u8], start: usize, key: &[u8]) -> Place
+pub(crate) fn behind(bytes: &[u8], start: usize, key: &[u8]) -> Place
     requires { ⌜ start ≤ length (now bytes) ⌝ }
     ensures { λ r. ⌜ r ≡ placeRead (beginsWith (now (key .entry)) (drop start (now (bytes .entry)))) (start + length (now (key .entry))) ⌝ }
 {
@@ -78,7 +78,7 @@ fn well_formed(text: &[u8], count: usize) -> bool
 
 // The number that stands from `start` to a line feed, in decimal without leading zeros or signs. Reading stops at the digit that
 // takes it above the limits, before it could grow beyond 64 bits: no number of digits makes a large number pass for a small one.
-pub fn number(bytes: &[u8], start: usize, limits: Limits) -> Figure
+pub(crate) fn number(bytes: &[u8], start: usize, limits: Limits) -> Figure
     requires { ⌜ start ≤ length (now bytes) ⌝ }
     ensures { λ r. ⌜ r ≡ figureRead (found (firstLine (drop start (now (bytes .entry)))) (numberIn (from limits .low to limits .high))) (nextLine (now (bytes .entry)) start) ⌝ }
 {

@@ -62,7 +62,7 @@ fn is_wrong(
 }
 
 // The group that starts at word `at`, with so many slots left in its clause, by the gaps of the clause's limits.
-pub fn screen_group(
+pub(crate) fn screen_group(
     words: &[u32],
     at: usize,
     left: usize,
