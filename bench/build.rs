@@ -1,11 +1,11 @@
-//! Points the linker at the archives that `rt staticlib exports` and `rt staticlib values` leave at the root of the repository.
+//! Points the linker at the archives that `rt staticlib` leaves at the root of the repository.
 
 use std::path::Path;
 
 fn main() {
     let root = Path::new(env!("CARGO_MANIFEST_DIR")).join("..");
     let folder = root.join("target").join("staticlib");
-    for library in ["exports", "values"] {
+    for library in ["exports", "values", "bench_clause"] {
         let archive = folder.join(format!("lib{library}.a"));
         println!("cargo:rerun-if-changed={}", archive.display());
         if !archive.is_file() {

@@ -1,7 +1,10 @@
 /* Functions of the proved judge and codec, for C and C++ on x86-64. `rt staticlib exports` writes target/staticlib/libexports.a, which has
  * the judge, and `rt staticlib values` libvalues.a beside it, which has the codec; link what you call. Nothing is allocated, and any
- * arguments get an answer: each pointer is read for as many elements as the length behind it says (it may be anything where the length
- * is 0). Only the codec writes, and only to what is not const; that must not overlap the rest. */
+ * arguments get an answer.
+ *
+ * What is proved holds of a caller who keeps this: each pointer is valid for as many elements as the length behind it says (it may be
+ * anything where the length is 0); what a function writes, the codec's arguments that are not const, does not overlap the rest; and nobody
+ * else writes to any of it meanwhile. A stack that runs out is outside of every theorem. */
 #ifndef ZLATOMRUK_H
 #define ZLATOMRUK_H
 
@@ -12,18 +15,15 @@
 extern "C" {
 #endif
 
-/* The verdict on a pack of 32-bit words by a card in bytes (seven lines; what stands behind them is not looked at). */
+/* The verdict on a pack of 32-bit words by a card in bytes (seven lines; what stands behind them is not looked at). It is 0 exactly if the
+ * pack is accepted; then every walk of it is safe (docs/READING.md, demand 3). */
 uint64_t zlatomruk_judge(const uint8_t *card, size_t card_length, const uint32_t *words, size_t words_length);
 
-/* Rules 10 to 15 on one ALU clause of `slots` slots from quadword `start` on, the place being 0. kind: 0 ps, 1 vs, else gs; modes: mode 0
- * in bits 1:0, mode 1 in bits 3:2. A clause that does not lie in the words answers 0: rule 6 is not asked here. */
-uint64_t zlatomruk_alu_clause(const uint32_t *words, size_t words_length, size_t start, size_t slots, uint32_t push_before,
-                              uint32_t kind, uint32_t gprs, uint32_t temps, uint32_t consts, uint32_t modes);
-
-/* A verdict: its number in bits 7:0 (0 is accepted), its place in bits 31:8, its slot in bits 63:32. */
+/* A verdict: its number in bits 7:0 (0 is accepted), its place in bits 31:16, its slot in bits 47:32. Bits 15:8 are 0 and reserved for the
+ * operand at fault; bits 63:48 are 0. */
 static inline uint32_t zlatomruk_number(uint64_t verdict) { return (uint32_t)(verdict & 0xFF); }
-static inline uint32_t zlatomruk_place(uint64_t verdict) { return (uint32_t)(verdict >> 8 & 0xFFFFFF); }
-static inline uint32_t zlatomruk_slot(uint64_t verdict) { return (uint32_t)(verdict >> 32); }
+static inline uint32_t zlatomruk_place(uint64_t verdict) { return (uint32_t)(verdict >> 16 & 0xFFFF); }
+static inline uint32_t zlatomruk_slot(uint64_t verdict) { return (uint32_t)(verdict >> 32 & 0xFFFF); }
 
 /* ---- The codec: a pair of words as 32-bit values, and back.
  *
@@ -58,8 +58,8 @@ enum zlatomruk_form { ZLATOMRUK_CF_ALU, ZLATOMRUK_CF, ZLATOMRUK_EXPORT, ZLATOMRU
 
 enum zlatomruk_stream { ZLATOMRUK_CONTROL_FLOW, ZLATOMRUK_ALU };
 
-/* The elements that hold every form. */
-enum { ZLATOMRUK_VALUES = 24 };
+/* The elements that a row has to have, whatever its form: the longest form takes 24 of them. */
+enum { ZLATOMRUK_VALUES = 32 };
 
 enum zlatomruk_cf_alu_value {
     ZLATOMRUK_CF_ALU_ADDR = 1, ZLATOMRUK_CF_ALU_KCACHE_BANK0, ZLATOMRUK_CF_ALU_KCACHE_BANK1, ZLATOMRUK_CF_ALU_KCACHE_MODE0,
@@ -102,12 +102,12 @@ enum zlatomruk_op3_value {
 
 /* Decodes the pair at word `start` of `words` (any number): control flow where `stream` is 0, ALU otherwise. 0, and the form's values are
  * written; the elements behind them stay as they were. Else nothing is written: 2 where the pair does not lie in the words, 4 or 11 where
- * its control-flow or ALU number is not taken, 20 where it is and `values` has fewer than 24 elements. */
+ * its control-flow or ALU number is not taken, 20 where it is and `values` has fewer than 32 elements. */
 uint32_t zlatomruk_decode(const uint32_t *words, size_t words_length, size_t start, uint32_t stream, uint32_t *values,
                           size_t values_length);
 
 /* Encodes the record that `values` holds into two words at word `start` of `words` (any number): 0. Else nothing is written: 21 where
- * `values` has fewer than 24 elements, the form is above 4, a value has more bits than its field, or the form has no such number; 20 where
+ * `values` has fewer than 32 elements, the form is above 4, a value has more bits than its field, or the form has no such number; 20 where
  * two words do not fit. What stands behind the form's last value is not looked at. */
 uint32_t zlatomruk_encode(const uint32_t *values, size_t values_length, uint32_t *words, size_t words_length, size_t start);
 

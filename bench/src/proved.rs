@@ -1,4 +1,5 @@
-//! The proved functions, from the archives that `rt staticlib exports` and `rt staticlib values` make. They ask nothing of their caller.
+//! The proved functions, from the archives that `rt staticlib` makes: the judge (exports), the codec (values), and rules 10 to 15 on one
+//! clause, which is in an archive for these comparisons alone (bench_clause).
 
 use crate::plain::Kind;
 
@@ -43,7 +44,7 @@ unsafe extern "C" {
 pub fn judge(card: &[u8], words: &[u32]) -> (u32, usize, usize) {
     // As above: two slices, only read.
     let answer = unsafe { zlatomruk_judge(card.as_ptr(), card.len(), words.as_ptr(), words.len()) };
-    ((answer & 0xFF) as u32, (answer >> 8 & 0xFF_FFFF) as usize, (answer >> 32) as usize)
+    ((answer & 0xFF) as u32, (answer >> 16 & 0xFFFF) as usize, (answer >> 32) as usize)
 }
 
 unsafe extern "C" {

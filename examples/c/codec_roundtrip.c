@@ -71,7 +71,7 @@ int main(void) {
     expect(pack[4] == 0x80000000 && pack[5] == 0x00000C90, "DST_GPR alone has changed");
     expect(judge(pack) == 0, "the changed pack is accepted");
 
-    /* What is refused changes no word: DST_GPR has 7 bits; two words do not fit at the last; 24 values do not fit in 23. */
+    /* What is refused changes no word: DST_GPR has 7 bits; two words do not fit at the last; a row has 32 elements, not 31. */
     uint32_t before[WORDS];
     memcpy(before, pack, sizeof pack);
     values[ZLATOMRUK_OP2_DST_GPR] = 128;
@@ -81,7 +81,7 @@ int main(void) {
     values[ZLATOMRUK_OP2_DST_GPR] = 127;
     expect(zlatomruk_encode(values, ZLATOMRUK_VALUES, pack, WORDS, WORDS - 1) == 20, "there is room for one word only");
     expect(memcmp(pack, before, sizeof pack) == 0, "no word has changed");
-    expect(zlatomruk_decode(pack, WORDS, 4, ZLATOMRUK_ALU, values, ZLATOMRUK_VALUES - 1) == 20, "there is room for 23 values only");
+    expect(zlatomruk_decode(pack, WORDS, 4, ZLATOMRUK_ALU, values, ZLATOMRUK_VALUES - 1) == 20, "a row of 31 elements is too short");
     expect(values[ZLATOMRUK_OP2_DST_GPR] == 127, "no value has changed");
     expect(zlatomruk_decode(pack, WORDS, SIZE_MAX, ZLATOMRUK_ALU, NULL, 0) == 2, "no pair lies at the largest start");
 

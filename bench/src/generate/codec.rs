@@ -1,7 +1,7 @@
 //! Pairs of words and rows of values for the codec: random ones, ones with every number, and rows just beyond what is taken.
 
 use super::random::Random;
-use crate::plain::codec::{VALUES, decode};
+use crate::plain::codec::{LONGEST, VALUES, decode};
 
 /// The two streams, as the codec numbers them.
 pub const STREAMS: [u32; 2] = [0, 1];
@@ -40,7 +40,7 @@ pub fn row(random: &mut Random) -> Vec<u32> {
     let stream = random.pick(&STREAMS);
     let pair = taken(stream, random);
     assert_eq!(decode(&pair, 0, stream, &mut values), 0, "a pair made to be taken");
-    let place = random.below(VALUES);
+    let place = random.below(LONGEST);
     match random.below(12) {
         0..=3 => {}
         4 => values[place] = random.word(),

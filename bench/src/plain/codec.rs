@@ -4,8 +4,11 @@
 
 use super::opcodes::{UNTAKEN, class_of};
 
-/// Elements that a row of values has to have room for, whatever its form.
-pub const VALUES: usize = 24;
+/// Elements that a row of values has to have, whatever its form.
+pub const VALUES: usize = 32;
+
+/// What the longest form, OP2, takes of them.
+pub const LONGEST: usize = 24;
 
 /// Bits HIGH:LOW of a word.
 #[inline(always)]
@@ -124,7 +127,7 @@ fn export(low: u32, high: u32) -> [u32; 18] {
     ]
 }
 
-fn op2(low: u32, high: u32) -> [u32; 24] {
+fn op2(low: u32, high: u32) -> [u32; LONGEST] {
     [
         3,
         bits::<8, 0>(low),
@@ -350,8 +353,9 @@ mod tests {
 
     #[test]
     fn the_copy_packs_mov() {
-        let mut values = [7; 25];
+        let mut values = [7; VALUES];
         assert_eq!(decode(&[0x8000_0000, 0x0020_0C90], 0, 1, &mut values), 0);
-        assert_eq!(values, [3, 0, 0, 0, 0, 0, 0, 0, 0, 0, 0, 1, 0, 0, 0, 0, 1, 0, 25, 0, 1, 0, 0, 0, 7]);
+        assert_eq!(values[..LONGEST], [3, 0, 0, 0, 0, 0, 0, 0, 0, 0, 0, 1, 0, 0, 0, 0, 1, 0, 25, 0, 1, 0, 0, 0]);
+        assert_eq!(values[LONGEST..], [7; VALUES - LONGEST]);
     }
 }

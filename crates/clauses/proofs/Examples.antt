@@ -3,7 +3,7 @@ use Prim.Native.Nat.{ℕ}
 use mathlib.Core.Path.{_≡_, refl}
 use mathlib.Core.Bool.{Bool, true, false}
 use mathlib.Core.List.{List, [], _∷_}
-use Rattle.units.specs.Units.{quadwords, slots}
+use Rattle.units.specs.Units.{quadwords, slots, lowAt, highAt}
 use Rattle.checks.specs.Verdict.{verdictNumber, verdictPlace, verdictSlot}
 use Rattle.checks.specs.Checks.{firstBroken, below}
 use Rattle.card.specs.declared.Kind.{Kind}
@@ -11,7 +11,7 @@ use Rattle.card.specs.declared.Kind.the-variants.{Pixel, Vertex}
 use Rattle.opcodes.specs.Alu.{op2, op3, op2Class, op3Class}
 use Rattle.grants.specs.declared.Limits.{Limits}
 use Rattle.instructions.specs.Instruction.{isOp3, classOf, badNumber, isRelative, sourceLiterals, literals, badSource, badField, hasRelative, isWritten, destinationNames, namesOf, named}
-use Rattle.groups.specs.Group.{countBelow, anyBelow, literalsBelow, isTaken, take, isAny, isTrans, unitFor, takenFrom, badUnit, unitOf, takenBefore, unitAt, badUnitAt, isSetter, isKill, isMova, isReduction, setters, settersAndKills, anyKill, anyMova, anyRelative, anyReduction, isAlike, isUneven, anyUneven, badIssue, eachOf, ruleChecks}
+use Rattle.groups.specs.Group.{countBelow, anyBelow, literalsBelow, isTaken, occupied, isAny, isTrans, unitFor, takenFrom, badUnit, unitOf, takenBefore, unitAt, badUnitAt, isSetter, isKill, isMova, isReduction, setters, settersAndKills, anyKill, anyMova, anyRelative, anyReduction, isAlike, isUneven, anyUneven, badIssue, eachOf, ruleChecks}
 use Rattle.clauses.specs.Clause.{lowOf, highOf, isLast, sizeFrom, sizeOf, spanOf, badShape, groupsFrom, groupsOf, isPixel, groupChecks, checksOf, settersIn, badPush, insideBuffer, clauseChecks}
 
 -- four registers, two clause temporaries, eight constants, the first sixteen of set 0 and all of set 1
@@ -106,7 +106,7 @@ answers :
     × (answer Pixel false 3 (0x80000000 ∷ 0xc90 ∷ 0 ∷ 0xc90 ∷ 0x80000000 ∷ 0x20020108 ∷ []) ≡ 15 ∷ 0 ∷ 2 ∷ [])
     -- a clause that does not lie in the buffer is rule 6's
     × (answer Pixel false 3 (0 ∷ 0xc90 ∷ []) ≡ 0 ∷ 0 ∷ 0 ∷ [])
-unfolding clauseChecks insideBuffer checksOf groupChecks groupsOf groupsFrom badShape spanOf sizeOf sizeFrom isLast lowOf highOf settersIn badPush isPixel firstBroken below isOp3 classOf badNumber isRelative sourceLiterals literals badSource badField hasRelative isWritten destinationNames namesOf named op2 op3 op2Class op3Class countBelow anyBelow literalsBelow isTaken take isAny isTrans unitFor takenFrom badUnit unitOf takenBefore unitAt badUnitAt isSetter isKill isMova isReduction setters settersAndKills anyKill anyMova anyRelative anyReduction isAlike isUneven anyUneven badIssue eachOf ruleChecks
+unfolding clauseChecks insideBuffer checksOf groupChecks groupsOf groupsFrom badShape spanOf sizeOf sizeFrom isLast lowOf highOf lowAt highAt settersIn badPush isPixel firstBroken below isOp3 classOf badNumber isRelative sourceLiterals literals badSource badField hasRelative isWritten destinationNames namesOf named op2 op3 op2Class op3Class countBelow anyBelow literalsBelow isTaken occupied isAny isTrans unitFor takenFrom badUnit unitOf takenBefore unitAt badUnitAt isSetter isKill isMova isReduction setters settersAndKills anyKill anyMova anyRelative anyReduction isAlike isUneven anyUneven badIssue eachOf ruleChecks
 answers = (
   refl,
   refl,

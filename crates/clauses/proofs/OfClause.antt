@@ -1,16 +1,14 @@
 -- A clause, group by group: the groups passed break nothing, so the verdict is that of the groups left. Assumes nothing.
-use Prim.Native.Nat.{ℕ, zero, suc, _+_, _-_, _*_, _/_, _≤_, _<_, _^_}
+use Prim.Native.Nat.{ℕ, zero, suc, _+_, _-_, _/_, _≤_, _<_, _^_}
 use mathlib.Core.Path.{_≡_, refl, sym, ap, _∙_}
 use mathlib.Core.Bool.{Bool, true, false, cond, not, _&&_}
 use mathlib.Core.List.{List, [], _∷_, _++_}
 use lib.ListN.{length}
-use lib.Dec.{leb}
-use borrow.Author.Tests.{lt-ltb, le-ltb, le-leb, lt-leb, leb-true, leb-false, not-false}
+use borrow.Author.Tests.{lt-ltb, le-ltb, ltb-true, leb-true, not-false}
 use native.Mathlib.Omega.{arith}
 use Rattle.units.specs.declared.Quadwords.{Quadwords}
 use Rattle.units.specs.declared.Slots.{Slots}
-use Rattle.units.specs.declared.Words.{Words}
-use Rattle.units.specs.Units.{capped, words, slots, lowWord, rangeEnd, slotsLength, wholeQuadwords, isAtMost}
+use Rattle.units.specs.Units.{quadwords, words, slots, quadwordsIn64, slotsIn64, slotQuadword, slotBehind, slotsLeft, isSlotBelow}
 use Rattle.units.proofs.OfUnits.{capped-exact}
 use Rattle.checks.specs.declared.Rule.{Rule}
 use Rattle.checks.specs.declared.Rule.the-variants.{GroupShape, IssueLimit}
@@ -28,30 +26,37 @@ use Rattle.groups.specs.declared.GroupFault.the-variants.{Clean, Broken}
 use Rattle.groups.specs.Group.{setters, ruleChecks}
 use Rattle.groups.specs.Seen.{countOf, together, isOne, seenOf, faultOf}
 use Rattle.groups.proofs.OfGroup.{counted-together, counts-one, answer, group-answer}
-use Rattle.clauses.specs.Clause.{lowOf, highOf, sizeOf, spanOf, badShape, wordOf, groupsFrom, groupsOf, isPixel, mayKill, groupChecks, checksOf, settersIn, badPush, insideBuffer, clauseChecks}
-use Rattle.clauses.specs.Read.{pushVerdict}
+use Rattle.clauses.specs.Clause.{lowOf, highOf, sizeOf, spanOf, badShape, groupsFrom, groupsOf, isPixel, mayKill, groupChecks, checksOf, settersIn, badPush, insideBuffer, clauseChecks}
+use Rattle.clauses.specs.Read.{Readable, pushVerdict}
 use Rattle.clauses.proofs.OfRead.{shaped}
 
--- ---- in the buffer
+-- ---- in the buffer, every number on the way is exact
 
-pub inside :
-    (n : ℕ) (s : Quadwords) (f : Slots) → n < 2 ^ 64
-    → isAtMost (rangeEnd s (slotsLength f)) (wholeQuadwords (words n)) ≡ insideBuffer n s f
-unfolding insideBuffer
-inside n s f h = by (leb (2 * s .0 + 2 * f .0) n) refl
-  where
-    by : (t : Bool) → leb (2 * s .0 + 2 * f .0) n ≡ t → leb (capped (s .0 + f .0)) (n / 2) ≡ t
-    by true e = le-leb (capped (s .0 + f .0)) (n / 2) (omega (arith, leb-true (2 * s .0 + 2 * f .0) n e))
-    by false e = lt-leb (capped (s .0 + f .0)) (n / 2) (omega (arith, leb-false (2 * s .0 + 2 * f .0) n e))
+module _ (w : List ℕ) (h : length w < 2 ^ 64) (s : Quadwords) (n g : Slots) {t : Bool} (e : t ≡ insideBuffer (words (length w)) s n)
+    (y : not t ≡ false) {b : Bool} (x : b ≡ isSlotBelow g n) (z : b ≡ true) where
+  pub below-end : g .0 < n .0
+  below-end = ltb-true (g .0) (n .0) (sym x ∙ z)
 
--- what the code knows once the clause was found to lie in the buffer: where its first word is, and how far it reaches
-pub frame :
-    (w : List ℕ) (s : Quadwords) (n : Slots) (t : Bool) (first : Words) → length w < 2 ^ 64 → t ≡ insideBuffer (length w) s n
-    → not t ≡ false → first ≡ lowWord s → (first .0 ≡ 2 * s .0) × (2 * s .0 + 2 * n .0 ≤ length w)
-unfolding insideBuffer
-frame w s n t first h e f g =
-    let reach : 2 * s .0 + 2 * n .0 ≤ length w = leb-true (2 * s .0 + 2 * n .0) (length w) (sym e ∙ not-false t f) in
-    (ap (λ (x : Words). x .0) g ∙ capped-exact (2 * s .0) (omega arith), reach)
+  reach : s .0 + n .0 ≤ length w / 2
+  unfolding insideBuffer
+  reach = leb-true (s .0 + n .0) (length w / 2) (sym e ∙ not-false t y)
+
+  -- the quadword of slot g
+  pub at-there : {at : Quadwords} → at ≡ quadwordsIn64 (slotQuadword s g) → at ≡ slotQuadword s g
+  at-there f = f ∙ ap quadwords (capped-exact (s .0 + g .0) (omega (arith, below-end, reach)))
+
+  -- the slots from there on can be read
+  pub readable :
+      {at : Quadwords} {left : Slots} → at ≡ quadwordsIn64 (slotQuadword s g) → left ≡ slotsLeft n g → Readable w at left
+  readable {at = at} {left = left} f d =
+      let a : at .0 ≡ s .0 + g .0 = ap (λ (q : Quadwords). q .0) (at-there f) in
+      let l : left .0 ≡ n .0 - g .0 = ap (λ (q : Slots). q .0) d in
+      record { some = omega (arith, below-end, l); inside = omega (arith, below-end, reach, a, l) }
+
+  -- a slot of the clause behind g
+  pub behind-there :
+      {x m : Slots} → x ≡ slotsIn64 (slotBehind g m) → m .0 ≤ n .0 - g .0 → x ≡ slotBehind g m
+  behind-there {m = m} f l = f ∙ ap slots (capped-exact (g .0 + m .0) (omega (arith, below-end, reach, l)))
 
 -- ---- PUSH_BEFORE's count
 
@@ -75,157 +80,156 @@ push-check push n place = rw (counts-one n)
 
 -- ---- the groups
 
-module _ (pixel : Bool) (limits : Limits) (w : List ℕ) (place : Quadwords) (first n : ℕ) where
-  abbrev size : ℕ → ℕ
-  size g = sizeOf w (wordOf first g) (n - g)
+module _ (pixel : Bool) (limits : Limits) (w : List ℕ) (place s : Quadwords) (n : Slots) where
+  abbrev size : Slots → ℕ
+  size g = sizeOf w (slotQuadword s g) (slotsLeft n g)
 
-  abbrev span : ℕ → ℕ
-  span g = spanOf w (wordOf first g) (n - g)
+  abbrev span : Slots → Slots
+  span g = spanOf w (slotQuadword s g) (slotsLeft n g)
 
-  abbrev verdict : List ℕ → Verdict
-  verdict gs = firstBroken (checksOf pixel limits w place first n gs)
+  abbrev verdict : List Slots → Verdict
+  verdict gs = firstBroken (checksOf pixel limits w place s n gs)
 
   -- before slot g, where a group starts or the clause ends: the groups passed break nothing, and so many setters were counted
-  pub record Along (count : Count) (g : ℕ) : Type 0 where
-    pub within : g ≤ n
+  pub record Along (count : Count) (g : Slots) : Type 0 where
+    pub within : g .0 ≤ n .0
     pub fuel : ℕ
-    pub enough : n - g ≤ fuel
+    pub enough : n .0 - g .0 ≤ fuel
     pub passed : ℕ
     pub count-is : count ≡ countOf passed
-    pub total : settersIn w first n (groupsOf w first n) ≡ passed + settersIn w first n (groupsFrom w first n fuel g)
-    pub rest : verdict (groupsOf w first n) ≡ verdict (groupsFrom w first n fuel g)
+    pub total : settersIn w s n (groupsOf w s n) ≡ passed + settersIn w s n (groupsFrom w s n fuel g)
+    pub rest : verdict (groupsOf w s n) ≡ verdict (groupsFrom w s n fuel g)
 
-  pub along-none : Along Nothing 0
+  pub along-none : Along Nothing (slots 0)
   unfolding groupsOf countOf
   along-none =
       record {
         within = omega arith;
-        fuel = n;
+        fuel = n .0;
         enough = omega arith;
         passed = 0;
         count-is = refl;
-        total = let t : ℕ = settersIn w first n (groupsFrom w first n n 0) in let e : t ≡ 0 + t = omega arith in e;
+        total = let t : ℕ = settersIn w s n (groupsFrom w s n (n .0) (slots 0)) in let e : t ≡ 0 + t = omega arith in e;
         rest = refl;
       }
 
   -- the groups from g on, where one starts there
   from-here :
-      (g k : ℕ) → g < n → n - g ≤ k
-      → groupsFrom w first n k g ≡ g ∷ cond (badShape w (wordOf first g) (n - g)) [] (groupsFrom w first n (k - 1) (g + span g))
+      (g : Slots) (k : ℕ) → g .0 < n .0 → n .0 - g .0 ≤ k
+      → groupsFrom w s n k g ≡ g ∷ cond (badShape w (slotQuadword s g) (slotsLeft n g)) [] (groupsFrom w s n (k - 1) (slotBehind g (span g)))
   unfolding groupsFrom
   from-here g zero l m = absurd (omega arith)
-  from-here g (suc k) l m = let e : suc k - 1 ≡ k = omega arith in rw (lt-ltb g n l, e) refl
+  from-here g (suc k) l m = let e : suc k - 1 ≡ k = omega arith in rw (lt-ltb (g .0) (n .0) l, e) refl
 
-  module _ {count : Count} {g : ℕ} (a : Along count g) (l : g < n) where
+  module _ {count : Count} {g : Slots} (a : Along count g) (l : g .0 < n .0) where
     here :
-        verdict (groupsOf w first n) ≡ verdict
-        (g ∷ cond (badShape w (wordOf first g) (n - g)) [] (groupsFrom w first n (a .fuel - 1) (g + span g)))
+        verdict (groupsOf w s n) ≡ verdict
+        (g ∷ cond (badShape w (slotQuadword s g) (slotsLeft n g)) [] (groupsFrom w s n (a .fuel - 1) (slotBehind g (span g))))
     here = a .rest ∙ ap verdict (from-here g (a .fuel) l (a .enough))
 
     pub along-bad :
-        badShape w (wordOf first g) (n - g) ≡ true
-        → verdict (groupsOf w first n) ≡ Refused GroupShape (Quadword place) (slots g)
+        badShape w (slotQuadword s g) (slotsLeft n g) ≡ true
+        → verdict (groupsOf w s n) ≡ Refused GroupShape (Quadword place) g
     unfolding checksOf groupChecks
-    along-bad h = here ∙ hit (check GroupShape (Quadword place) (slots g) (badShape w (wordOf first g) (n - g))) _ h
+    along-bad h = here ∙ hit (check GroupShape (Quadword place) g (badShape w (slotQuadword s g) (slotsLeft n g))) _ h
 
-    module _ (h : badShape w (wordOf first g) (n - g) ≡ false) {fault : GroupFault}
-        (f : fault ≡ faultOf (seenOf limits (lowOf w (wordOf first g)) (highOf w (wordOf first g)) (size g)) (size g) (mayKill pixel n (g + span g))) where
+    module _ (h : badShape w (slotQuadword s g) (slotsLeft n g) ≡ false) {fault : GroupFault}
+        (f : fault ≡ faultOf (seenOf limits (lowOf w (slotQuadword s g)) (highOf w (slotQuadword s g)) (size g)) (size g) (mayKill pixel n (slotBehind g (span g)))) where
       -- past the shape: the group's rules, then the groups behind it
       past :
-          verdict (groupsOf w first n) ≡ andThen (answer place g fault)
-          (verdict (groupsFrom w first n (a .fuel - 1) (g + span g)))
+          verdict (groupsOf w s n) ≡ andThen (answer place g fault)
+          (verdict (groupsFrom w s n (a .fuel - 1) (slotBehind g (span g))))
       unfolding checksOf groupChecks
       past =
           here
-          ∙ miss (check GroupShape (Quadword place) (slots g) (badShape w (wordOf first g) (n - g))) _ h
+          ∙ miss (check GroupShape (Quadword place) g (badShape w (slotQuadword s g) (slotsLeft n g))) _ h
           ∙ ap
-          (λ (b : Bool). firstBroken (ruleChecks place g limits (mayKill pixel n (g + span g)) (lowOf w (wordOf first g)) (highOf w (wordOf first g)) (size g) ++ checksOf pixel limits w place first n (cond b [] (groupsFrom w first n (a .fuel - 1) (g + span g)))))
+          (λ (b : Bool). firstBroken (ruleChecks place g limits (mayKill pixel n (slotBehind g (span g))) (lowOf w (slotQuadword s g)) (highOf w (slotQuadword s g)) (size g) ++ checksOf pixel limits w place s n (cond b [] (groupsFrom w s n (a .fuel - 1) (slotBehind g (span g))))))
           h
           ∙ joined
-          (ruleChecks place g limits (mayKill pixel n (g + span g)) (lowOf w (wordOf first g)) (highOf w (wordOf first g)) (size g))
-          (checksOf pixel limits w place first n (groupsFrom w first n (a .fuel - 1) (g + span g)))
-          ∙ ap (λ (v : Verdict). andThen v (verdict (groupsFrom w first n (a .fuel - 1) (g + span g))))
-          (group-answer place g limits (mayKill pixel n (g + span g)) (lowOf w (wordOf first g)) (highOf w (wordOf first g)) (size g) ∙ ap (answer place g) (sym f))
+          (ruleChecks place g limits (mayKill pixel n (slotBehind g (span g))) (lowOf w (slotQuadword s g)) (highOf w (slotQuadword s g)) (size g))
+          (checksOf pixel limits w place s n (groupsFrom w s n (a .fuel - 1) (slotBehind g (span g))))
+          ∙ ap (λ (v : Verdict). andThen v (verdict (groupsFrom w s n (a .fuel - 1) (slotBehind g (span g)))))
+          (group-answer place g limits (mayKill pixel n (slotBehind g (span g))) (lowOf w (slotQuadword s g)) (highOf w (slotQuadword s g)) (size g) ∙ ap (answer place g) (sym f))
 
       pub along-fault :
-          {r : Rule} {behind : ℕ} → fault ≡ Broken r behind
-          → verdict (groupsOf w first n) ≡ Refused r (Quadword place) (slots (g + behind))
+          {r : Rule} {behind : Slots} → fault ≡ Broken r behind
+          → verdict (groupsOf w s n) ≡ Refused r (Quadword place) (slotBehind g behind)
       along-fault q =
           past
-          ∙ ap (λ (x : GroupFault). andThen (answer place g x) (verdict (groupsFrom w first n (a .fuel - 1) (g + span g)))) q
+          ∙ ap (λ (x : GroupFault). andThen (answer place g x) (verdict (groupsFrom w s n (a .fuel - 1) (slotBehind g (span g))))) q
 
       setters-here :
-          settersIn w first n (groupsFrom w first n (a .fuel) g) ≡ setters (highOf w (wordOf first g)) (size g) + settersIn w
-          first n (groupsFrom w first n (a .fuel - 1) (g + span g))
+          settersIn w s n (groupsFrom w s n (a .fuel) g) ≡ setters (highOf w (slotQuadword s g)) (size g) + settersIn w
+          s n (groupsFrom w s n (a .fuel - 1) (slotBehind g (span g)))
       unfolding settersIn
       setters-here =
-          ap (settersIn w first n) (from-here g (a .fuel) l (a .enough))
+          ap (settersIn w s n) (from-here g (a .fuel) l (a .enough))
           ∙ ap
-          (λ (b : Bool). setters (highOf w (wordOf first g)) (size g) + settersIn w first n (cond b [] (groupsFrom w first n (a .fuel - 1) (g + span g))))
+          (λ (b : Bool). setters (highOf w (slotQuadword s g)) (size g) + settersIn w s n (cond b [] (groupsFrom w s n (a .fuel - 1) (slotBehind g (span g)))))
           h
 
       pub along-next :
-          {own more : Count} → fault ≡ Clean → own ≡ countOf (setters (highOf w (wordOf first g)) (size g))
-          → more ≡ together count own → Along more (g + span g)
+          {own more : Count} → fault ≡ Clean → own ≡ countOf (setters (highOf w (slotQuadword s g)) (size g))
+          → more ≡ together count own → Along more (slotBehind g (span g))
       along-next q o t =
-          let room = shaped w (wordOf first g) (n - g) h in
+          let room = shaped w (slotQuadword s g) (slotsLeft n g) h in
           record {
             within = omega (arith, room .1);
             fuel = a .fuel - 1;
             enough = omega (arith, a .enough, room .0);
-            passed = a .passed + setters (highOf w (wordOf first g)) (size g);
+            passed = a .passed + setters (highOf w (slotQuadword s g)) (size g);
             count-is =
                 t
                 ∙ (λ i. together (a .count-is i) (o i))
-                ∙ counted-together (a .passed) (setters (highOf w (wordOf first g)) (size g));
+                ∙ counted-together (a .passed) (setters (highOf w (slotQuadword s g)) (size g));
             total = omega (arith, a .total, setters-here);
             rest =
                 past
                 ∙ ap
-                (λ (x : GroupFault). andThen (answer place g x) (verdict (groupsFrom w first n (a .fuel - 1) (g + span g))))
+                (λ (x : GroupFault). andThen (answer place g x) (verdict (groupsFrom w s n (a .fuel - 1) (slotBehind g (span g)))))
                 q;
           }
 
-  none-left : (k g : ℕ) → n ≤ g → groupsFrom w first n k g ≡ []
+  none-left : (k : ℕ) (g : Slots) → n .0 ≤ g .0 → groupsFrom w s n k g ≡ []
   unfolding groupsFrom
   none-left zero g l = refl
-  none-left (suc k) g l = rw (le-ltb g n l)
+  none-left (suc k) g l = rw (le-ltb (g .0) (n .0) l)
 
   -- ---- the whole clause
 
-  module _ (kind : Kind) (push : Bool) (s : Quadwords) (f : Slots) (i : insideBuffer (length w) s f ≡ true)
-      (p : pixel ≡ isPixel kind) (a : first ≡ 2 * s .0) (b : n ≡ f .0) where
+  module _ (kind : Kind) (push : Bool) (i : insideBuffer (words (length w)) s n ≡ true) (p : pixel ≡ isPixel kind) where
     whole :
-        firstBroken (clauseChecks kind push limits w place s f) ≡ firstBroken
-        (checksOf pixel limits w place first n (groupsOf w first n) ++ (check IssueLimit (Quadword place) (slots 0) (badPush push (settersIn w first n (groupsOf w first n))) ∷ []))
+        firstBroken (clauseChecks kind push limits w place s n) ≡ firstBroken
+        (checksOf pixel limits w place s n (groupsOf w s n) ++ (check IssueLimit (Quadword place) (slots 0) (badPush push (settersIn w s n (groupsOf w s n))) ∷ []))
     unfolding clauseChecks
     whole =
         rw i
         (λ j.
         firstBroken
-        (checksOf (sym p j) limits w place (sym a j) (sym b j) (groupsOf w (sym a j) (sym b j))
-        ++ (check IssueLimit (Quadword place) (slots 0) (badPush push (settersIn w (sym a j) (sym b j) (groupsOf w (sym a j) (sym b j)))) ∷ [])))
+        (checksOf (sym p j) limits w place s n (groupsOf w s n)
+        ++ (check IssueLimit (Quadword place) (slots 0) (badPush push (settersIn w s n (groupsOf w s n))) ∷ [])))
 
     pub clause-refused :
-        {v : Verdict} {r : Rule} {x : ℕ} → verdict (groupsOf w first n) ≡ Refused r (Quadword place) (slots x)
-        → v ≡ Refused r (Quadword place) (slots x) → v ≡ firstBroken (clauseChecks kind push limits w place s f)
-    clause-refused h e = e ∙ sym (whole ∙ joined-refused (checksOf pixel limits w place first n (groupsOf w first n)) _ h)
+        {v : Verdict} {r : Rule} {x : Slots} → verdict (groupsOf w s n) ≡ Refused r (Quadword place) x
+        → v ≡ Refused r (Quadword place) x → v ≡ firstBroken (clauseChecks kind push limits w place s n)
+    clause-refused h e = e ∙ sym (whole ∙ joined-refused (checksOf pixel limits w place s n (groupsOf w s n)) _ h)
 
     pub clause-done :
-        {v : Verdict} {count : Count} {g : ℕ} → Along count g → n ≤ g → v ≡ pushVerdict push count place
-        → v ≡ firstBroken (clauseChecks kind push limits w place s f)
+        {v : Verdict} {count : Count} {g : Slots} → Along count g → n .0 ≤ g .0 → v ≡ pushVerdict push count place
+        → v ≡ firstBroken (clauseChecks kind push limits w place s n)
     unfolding settersIn checksOf firstBroken
     clause-done {count = count} {g = g} z l e =
         let last = none-left (z .fuel) g l in
-        let seen : settersIn w first n (groupsOf w first n) ≡ z .passed = z .total ∙ ap (λ (gs : List ℕ). z .passed + settersIn w first n gs) last ∙ (omega arith) in
+        let seen : settersIn w s n (groupsOf w s n) ≡ z .passed = z .total ∙ ap (λ (gs : List Slots). z .passed + settersIn w s n gs) last ∙ (omega arith) in
         e
         ∙ ap (λ (k : Count). pushVerdict push k place) (z .count-is)
         ∙ ap (λ (k : ℕ). pushVerdict push (countOf k) place) (sym seen)
-        ∙ push-check push (settersIn w first n (groupsOf w first n)) place
-        ∙ sym (whole ∙ joined-clean (checksOf pixel limits w place first n (groupsOf w first n)) _ (z .rest ∙ ap verdict last))
+        ∙ push-check push (settersIn w s n (groupsOf w s n)) place
+        ∙ sym (whole ∙ joined-clean (checksOf pixel limits w place s n (groupsOf w s n)) _ (z .rest ∙ ap verdict last))
 
 pub outside :
     (kind : Kind) (push : Bool) (limits : Limits) (w : List ℕ) (place s : Quadwords) (n : Slots)
-    → insideBuffer (length w) s n ≡ false → Accepted ≡ firstBroken (clauseChecks kind push limits w place s n)
+    → insideBuffer (words (length w)) s n ≡ false → Accepted ≡ firstBroken (clauseChecks kind push limits w place s n)
 unfolding clauseChecks firstBroken
 outside kind push limits w place s n h = rw h

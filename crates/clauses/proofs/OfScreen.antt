@@ -1,10 +1,14 @@
 -- A group at a glance: what is kept of it is all that has been seen, as long as nothing is broken. Assumes nothing.
-use Prim.Native.Nat.{ℕ, _+_, _<_, max}
+use Prim.Native.Nat.{ℕ, _+_, _<_, _≤_, _^_, max}
+use borrow.Author.Tests.{ltb-false}
 use mathlib.Core.Path.{_≡_, refl, sym, ap, _∙_}
 use mathlib.Core.Bool.{Bool, true, false, cond, not, _&&_, _||_, false≢true}
 use mathlib.Core.List.{List}
-use lib.Dec.{eqb}
 use native.Mathlib.Omega.{arith}
+use Rattle.units.specs.declared.Quadwords.{Quadwords}
+use Rattle.units.specs.declared.Slots.{Slots}
+use Rattle.units.specs.Units.{slots, slotsIn64, slotBehind, isSlotBelow}
+use Rattle.units.proofs.OfUnits.{capped-exact}
 use Rattle.bits.specs.Fields.{fieldOf}
 use Rattle.opcodes.specs.declared.alu.Class.{Class}
 use Rattle.opcodes.specs.Alu.{isTaken}
@@ -17,13 +21,13 @@ use Rattle.groups.specs.declared.First.the-variants.{Nowhere}
 use Rattle.groups.specs.declared.GroupFault.the-variants.{Clean}
 use Rattle.groups.specs.declared.Issues.{Issues}
 use Rattle.groups.specs.declared.Seen.{Seen}
-use Rattle.groups.specs.Group.{Taken, unitFor, badUnit, take, isUneven, setters}
-use Rattle.groups.specs.Seen.{countOf, nextIssues, issuesOf, noneSeen, nextSeen, seenOf, faultOf}
+use Rattle.groups.specs.Group.{Taken, unitFor, badUnit, occupied, isUneven, setters}
+use Rattle.groups.specs.Seen.{countOf, nextIssues, issuesOf, noneSeen, nextSeen, seenOf, badIssues, faultOf}
 use Rattle.groups.proofs.OfSeen.{not-here, next-seen, breaks-none}
 use Rattle.clauses.specs.declared.screen.Glance.{Glance}
 use Rattle.clauses.specs.declared.Group.{Group}
 use Rattle.clauses.specs.Clause.{lowOf, highOf, sizeOf, spanOf}
-use Rattle.clauses.specs.Read.{groupOf}
+use Rattle.clauses.specs.Read.{groupOf, endsClause}
 use Rattle.clauses.specs.Screen.{isWrong, Passes, ScreenedBy, Closes}
 use Rattle.clauses.proofs.OfRead.{Reading, reading-none, reading-last, reading-next}
 
@@ -59,12 +63,12 @@ clearSeen n t i =
     record { literals = n; numbers = Nowhere; fields = Nowhere; units = Nowhere; grants = Nowhere; taken = t; issues = i }
 
 -- one instruction more
-module _ (limits : Limits) (j first lo hi n : ℕ) (t : Taken) (i : Issues) {k : Class} {u : ℕ} {uneven : Bool}
-    (class-is : k ≡ classOf hi) (unit-is : u ≡ unitFor t (k .unit) (fieldOf hi 29 2)) (uneven-is : uneven ≡ isUneven j u first hi)
+module _ (limits : Limits) (j : Slots) (first lo hi n : ℕ) (t : Taken) (i : Issues) {k : Class} {u : ℕ} {uneven : Bool}
+    (class-is : k ≡ classOf hi) (unit-is : u ≡ unitFor t (k .unit) (fieldOf hi 29 2)) (uneven-is : uneven ≡ isUneven (j .0) u first hi)
     (h : isWrong (startsOf limits) (widthsOf limits) t k u lo hi ≡ false) where
   next-clear :
       {n' : ℕ} {t' : Taken} {i' : Issues} {relative : Bool} → relative ≡ hasRelative lo hi
-      → i' ≡ nextIssues i (k .issue) relative uneven → n' ≡ max n (literals lo hi) → t' ≡ take t u
+      → i' ≡ nextIssues i (k .issue) relative uneven → n' ≡ max n (literals lo hi) → t' ≡ occupied t u
       → clearSeen n' t' i' ≡ nextSeen limits j first lo hi (clearSeen n t i)
   next-clear relative-is issues-is literals-are taken-is =
       let r = right (startsOf limits) (widthsOf limits) t k u lo hi h in
@@ -91,24 +95,24 @@ module _ (limits : Limits) (j first lo hi n : ℕ) (t : Taken) (i : Issues) {k :
       issues-is
 
 -- the whole group
-module _ (limits : Limits) (w : List ℕ) (at left size n : ℕ) (t : Taken) (i : Issues) (pixel : Bool) (x : Glance)
-    (e : record { size = size; seen = clearSeen n t i } ≡ groupOf limits w at left) (some : 0 < size)
+module _ (limits : Limits) (w : List ℕ) (at : Quadwords) (left size : Slots) (n : ℕ) (t : Taken) (i : Issues) (pixel : Bool) (x : Glance)
+    (e : record { size = size; seen = clearSeen n t i } ≡ groupOf limits w at left) (some : 0 < size .0)
     (d : Closes i size n left pixel x) where
-  size-there : size ≡ sizeOf w at left
+  size-there : size .0 ≡ sizeOf w at left
   unfolding groupOf
-  size-there = ap (λ (y : Group). y .size) e
+  size-there = ap (λ (y : Group). y .size .0) e
 
-  span-there : size + n ≡ spanOf w at left
+  span-there : slotBehind size (slots n) ≡ spanOf w at left
   unfolding groupOf spanOf seenOf
-  span-there = ap (λ (y : Group). y .size + y .seen .literals) e
+  span-there = ap (λ (y : Group). slotBehind (y .size) (slots (y .seen .literals))) e
 
   clean-there :
-      faultOf (seenOf limits (lowOf w at) (highOf w at) (sizeOf w at left)) (sizeOf w at left) (pixel && eqb (spanOf w at left) left)
+      faultOf (seenOf limits (lowOf w at) (highOf w at) (sizeOf w at left)) (sizeOf w at left) (pixel && endsClause left (spanOf w at left))
       ≡ Clean
   unfolding groupOf
   clean-there =
-      sym (λ y. faultOf (e y .seen) (e y .size) (pixel && eqb (span-there y) left))
-      ∙ sym (breaks-none (clearSeen n t i) size (pixel && eqb (size + n) left) refl refl refl refl (d .keeps) refl)
+      sym (λ y. faultOf (e y .seen) (e y .size .0) (pixel && endsClause left (span-there y)))
+      ∙ sym (breaks-none (clearSeen n t i) (size .0) (pixel && endsClause left (slotBehind size (slots n))) refl refl refl refl (d .keeps) refl)
 
   counted-there : x .setters ≡ countOf (setters (highOf w at) (sizeOf w at left))
   unfolding groupOf seenOf issuesOf
@@ -119,12 +123,12 @@ module _ (limits : Limits) (w : List ℕ) (at left size n : ℕ) (t : Taken) (i 
       record {
         sized = λ z. absurd (omega (arith, z, size-there, some));
         spans = d .spans ∙ span-there;
-        fits = omega (arith, span-there, d .fits);
+        fits = omega (arith, ap (λ (y : Slots). y .0) span-there, d .fits);
         clean = clean-there;
         counts = counted-there;
       }
 
-module _ (w : List ℕ) (at left : ℕ) where
+module _ (w : List ℕ) (at : Quadwords) (left : Slots) where
   -- j instructions are read, none of them is the last, and none breaks rule 11, 12, 13 or 15
   pub record Screening (starts widths : List ℕ) (first n : ℕ) (t : Taken) (i : Issues) (j : ℕ) : Type 0 where
     pub reads :
@@ -137,17 +141,17 @@ module _ (w : List ℕ) (at left : ℕ) where
     screening-none e f =
         record { reads = λ limits p q. reading-none w at left limits e (λ k. clearSeen 0 0 (f k .issues)) }
 
-    module _ {first n : ℕ} {t : Taken} {i : Issues} {j : ℕ} (r : Screening starts widths first n t i j) (l : j < 5) (m : j < left)
+    module _ {first n : ℕ} {t : Taken} {i : Issues} {j : ℕ} (r : Screening starts widths first n t i j) (l : j < 5) (m : j < left .0)
         {lo hi : ℕ} (p : lo ≡ lowOf w at j) (q : hi ≡ highOf w at j) {k : Class} {u n' : ℕ} {t' : Taken} {i' : Issues}
         {uneven relative wrong : Bool} (class-is : k ≡ classOf hi) (unit-is : u ≡ unitFor t (k .unit) (fieldOf hi 29 2))
         (wrong-is : wrong ≡ isWrong starts widths t k u lo hi) (h : wrong ≡ false) (relative-is : relative ≡ hasRelative lo hi)
         (uneven-is : uneven ≡ isUneven j u first hi) (issues-is : i' ≡ nextIssues i (k .issue) relative uneven)
-        (literals-are : n' ≡ max n (literals lo hi)) (taken-is : t' ≡ take t u) {last : ℕ} (f : last ≡ fieldOf lo 31 1) where
+        (literals-are : n' ≡ max n (literals lo hi)) (taken-is : t' ≡ occupied t u) {last : ℕ} (f : last ≡ fieldOf lo 31 1) where
       after :
           (limits : Limits) → starts ≡ startsOf limits → widths ≡ widthsOf limits
-          → clearSeen n' t' i' ≡ nextSeen limits j first lo hi (clearSeen n t i)
+          → clearSeen n' t' i' ≡ nextSeen limits (slots j) first lo hi (clearSeen n t i)
       after limits a b =
-          next-clear limits j first lo hi n t i class-is unit-is uneven-is
+          next-clear limits (slots j) first lo hi n t i class-is unit-is uneven-is
           ((λ x. isWrong (sym a x) (sym b x) t k u lo hi) ∙ sym wrong-is ∙ h) relative-is issues-is literals-are taken-is
 
       pub screening-next : (last ≡ 1 → ⊥) → Screening starts widths first n' t' i' (j + 1)
@@ -158,16 +162,33 @@ module _ (w : List ℕ) (at left : ℕ) where
           }
 
       pub screening-last :
-          last ≡ 1 → (pixel : Bool) {x : Glance} → (0 < x .span → Closes i' (j + 1) n' left pixel x)
+          last ≡ 1 → (pixel : Bool) {x : Glance} → (0 < x .span .0 → Closes i' (slots (j + 1)) n' left pixel x)
           → ScreenedBy starts widths w at left pixel x
       screening-last g pixel {x} closes =
-          record { passes = λ limits a b some. passed limits w at left (j + 1) n' t' i' pixel x (reading-last w at left limits (r .reads limits a b) l m p q (after limits a b) f g) (omega arith) (closes some) }
+          record { passes = λ limits a b some. passed limits w at left (slots (j + 1)) n' t' i' pixel x (reading-last w at left limits (r .reads limits a b) l m p q (after limits a b) f g) (omega arith) (closes some) }
 
   -- a glance without slots says nothing
   pub screening-not :
-      (starts widths : List ℕ) (pixel : Bool) {x : Glance} → x .span ≡ 0 → ScreenedBy starts widths w at left pixel x
+      (starts widths : List ℕ) (pixel : Bool) {x : Glance} → x .span .0 ≡ 0 → ScreenedBy starts widths w at left pixel x
   screening-not starts widths pixel e = record { passes = λ limits a b some. absurd (omega (arith, some, e)) }
 
 pub closes-not :
-    (i : Issues) (size n left : ℕ) (pixel : Bool) {x : Glance} → x .span ≡ 0 → 0 < x .span → Closes i size n left pixel x
+    (i : Issues) (size : Slots) (n : ℕ) (left : Slots) (pixel : Bool) {x : Glance} → x .span .0 ≡ 0 → 0 < x .span .0 → Closes i size n left pixel x
 closes-not i size n left pixel e some = absurd (omega (arith, some, e))
+
+pub closes :
+    (i : Issues) (size : Slots) (n : ℕ) (left : Slots) (pixel : Bool) → size .0 ≤ 5 → n < 2 ^ 32 → {span : Slots} {long short bad : Bool}
+    → span ≡ slotsIn64 (slotBehind size (slots n)) → long ≡ isSlotBelow left span → long ≡ false → short ≡ isSlotBelow span left
+    → bad ≡ badIssues i (size .0) (pixel && not short) → bad ≡ false
+    → Closes i size n left pixel (record { span = span; setters = i .setters })
+closes i size n left pixel few h {span = span} e f g k b d =
+    let exact : span ≡ slotBehind size (slots n) = e ∙ ap slots (capped-exact (size .0 + n) (omega (arith, few, h))) in
+    record {
+      spans = exact;
+      fits = ltb-false (left .0) (size .0 + n) (ap (λ (x : Slots). isSlotBelow left x) (sym exact) ∙ sym f ∙ g);
+      keeps =
+          (λ y. badIssues i (size .0) (pixel && not ((ap (λ (x : Slots). isSlotBelow x left) (sym exact) ∙ sym k) y)))
+          ∙ sym b
+          ∙ d;
+      counts = refl;
+    }

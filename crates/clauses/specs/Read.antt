@@ -1,11 +1,11 @@
 -- What the code's parts answer about one group and about PUSH_BEFORE's count.
-use Prim.Native.Nat.{ℕ, _+_, _*_, _≤_, _<_}
+use Prim.Native.Nat.{ℕ, _≤_, _<_}
 use mathlib.Core.Bool.{Bool, cond, not, _&&_}
 use mathlib.Core.List.{List}
-use lib.Dec.{eqb}
 use lib.ListN.{length}
 use Rattle.units.specs.declared.Quadwords.{Quadwords}
-use Rattle.units.specs.Units.{slots}
+use Rattle.units.specs.declared.Slots.{Slots}
+use Rattle.units.specs.Units.{slots, words, slotsLength, rangeEnd, wholeQuadwords, isSlotBelow}
 use Rattle.checks.specs.declared.Rule.the-variants.{GroupShape, IssueLimit}
 use Rattle.checks.specs.declared.Place.the-variants.{Quadword}
 use Rattle.checks.specs.declared.Verdict.{Verdict}
@@ -23,28 +23,32 @@ use Rattle.clauses.specs.declared.Step.the-variants.{Passed}
 use Rattle.clauses.specs.declared.Step.the-variants as step
 use Rattle.clauses.specs.Clause.{lowOf, highOf, sizeOf, spanOf, badShape}
 
--- the group at a word, and all that was seen of its instructions
-unfoldable pub groupOf : Limits → List ℕ → ℕ → ℕ → Group
+-- the group whose first slot is a quadword, and all that was seen of its instructions
+unfoldable pub groupOf : Limits → List ℕ → Quadwords → Slots → Group
 groupOf limits w at left =
-    record { size = sizeOf w at left; seen = seenOf limits (lowOf w at) (highOf w at) (sizeOf w at left) }
+    record { size = slots (sizeOf w at left); seen = seenOf limits (lowOf w at) (highOf w at) (sizeOf w at left) }
 
 abbrev pub noGroup : Group
-noGroup = record { size = 0; seen = noneSeen }
+noGroup = record { size = slots 0; seen = noneSeen }
+
+-- the group that takes so many of the slots left ends its clause
+abbrev pub endsClause : Slots → Slots → Bool
+endsClause left span = not (isSlotBelow span left)
 
 -- what a group comes to: a bad shape, the first broken rule of 11 to 15, or the slots that it takes and how many setters it has
-abbrev pub stepBy : GroupFault → ℕ → Count → Step
+abbrev pub stepBy : GroupFault → Slots → Count → Step
 stepBy Clean span count = Passed span count
 stepBy (fault.Broken r behind) span count = step.Broken r behind
 
-unfoldable pub stepOf : Limits → Bool → List ℕ → ℕ → ℕ → Step
+unfoldable pub stepOf : Limits → Bool → List ℕ → Quadwords → Slots → Step
 stepOf limits pixel w at left =
-    cond (badShape w at left) (step.Broken GroupShape 0)
-    (stepBy (faultOf (seenOf limits (lowOf w at) (highOf w at) (sizeOf w at left)) (sizeOf w at left) (pixel && eqb (spanOf w at left) left)) (spanOf w at left) (countOf (setters (highOf w at) (sizeOf w at left))))
+    cond (badShape w at left) (step.Broken GroupShape (slots 0))
+    (stepBy (faultOf (seenOf limits (lowOf w at) (highOf w at) (sizeOf w at left)) (sizeOf w at left) (pixel && endsClause left (spanOf w at left))) (spanOf w at left) (countOf (setters (highOf w at) (sizeOf w at left))))
 
 -- a slot is left, and those left lie in the words
-pub record Readable (w : List ℕ) (at left : ℕ) : Type 0 where
-  pub some : 0 < left
-  pub inside : at + 2 * left ≤ length w
+pub record Readable (w : List ℕ) (at : Quadwords) (left : Slots) : Type 0 where
+  pub some : 0 < left .0
+  pub inside : rangeEnd at (slotsLength left) .0 ≤ wholeQuadwords (words (length w)) .0
 
 unfoldable pub pushVerdict : Bool → Count → Quadwords → Verdict
 pushVerdict pushBefore count place =

@@ -15,7 +15,6 @@ ghost use mathlib.Core.Path.{_≡_};
 ghost use Rattle.checks.specs.Checks.{firstBroken};
 ghost use Rattle.checks.specs.declared.Place.the-variants.{Quadword};
 ghost use Rattle.checks.specs.declared.Verdict.the-variants.{Refused};
-ghost use Rattle.units.specs.Units as counted;
 ghost use Rattle.screens.specs.Gaps.{startsOf, widthsOf};
 ghost use Rattle.clauses.specs.Clause.{isPixel, insideBuffer, clauseChecks};
 ghost use Rattle.clauses.specs.Read.{stepOf, groupOf, noGroup, pushVerdict, Readable};
@@ -23,14 +22,14 @@ ghost use Rattle.clauses.specs.Read.{stepOf, groupOf, noGroup, pushVerdi
 mod screen;
 
 // What a group comes to: the slots that it takes and the setters in it; or what it breaks, and how many slots behind its first.
-pub enum Step {
-    Passed(usize, Count),
-    Broken(Rule, usize),
+enum Step {
+    Passed(Slots, Count),
+    Broken(Rule, Slots),
 }
 
 // A group as it was read: how many instructions it has, 0 where none of five or of those left in the clause has LAST set.
-pub struct Group {
-    pub size: usize,
+struct Group {
+    pub size: Slots,
     pub seen: Seen,
 }
 
@@ -47,36 +46,36 @@ pub fn alu_clause(
 ) -> Verdict
     ensures { λ r. ⌜ r ≡ firstBroken (clauseChecks kind «push_before» limits (now (words .entry)) place start slots) ⌝ }
 {
-    let n = slots.0;
-    if !is_inside(words.len(), start, slots) {
+    if !is_inside(Words(words.len()), start, slots) {
         return Verdict::Accepted;
     }
-    let first = units::low_word(start).0;
     let pixel = is_pixel(kind);
     let starts = screens::gap_starts(limits);
     let widths = screens::gap_widths(limits);
     let mut setters = Count::Nothing;
-    let mut g = 0;
-    while g < n {
-        let step = next_group(words, first + 2 * g, n - g, limits, &starts, &widths, pixel);
+    let mut g = Slots(0);
+    while units::is_slot_below(g, slots) {
+        let at = units::slot_quadword(start, g);
+        let left = units::slots_left(slots, g);
+        let step = next_group(words, at, left, limits, &starts, &widths, pixel);
         match step {
             Step::Broken(rule, behind) => {
-                return refused(rule, place, g + behind);
+                return refused(rule, place, units::slot_behind(g, behind));
             }
             Step::Passed(span, own) => {
                 setters = groups::counts::together(setters, own);
-                g += span;
+                g = units::slot_behind(g, span);
             }
         }
     }
     push_verdict(push_before, setters, place)
 }
 
-// The group that starts at word `at`, with so many slots left in its clause: at a glance if it breaks nothing, else looked at again.
+// The group whose first slot is quadword `at`, with so many slots left in its clause: at a glance if it breaks nothing, else looked at again.
 fn next_group(
     words: &[u32],
-    at: usize,
-    left: usize,
+    at: Quadwords,
+    left: Slots,
     limits: Limits,
     starts: &[u32; 32],
     widths: &[u32; 32],
@@ -89,7 +88,7 @@ fn next_group(
 {
     let glance = screen::screen_group(words, at, left, starts, widths, pixel);
     let span = glance.span;
-    if span != 0 {
+    if units::is_slot_below(Slots(0), span) {
         let own = glance.setters;
         return Step::Passed(span, own);
     }
@@ -97,20 +96,21 @@ fn next_group(
 }
 
 // The same with all that its first broken rule is told by.
-fn judge_group(words: &[u32], at: usize, left: usize, limits: Limits, pixel: bool) -> Step
+fn judge_group(words: &[u32], at: Quadwords, left: Slots, limits: Limits, pixel: bool) -> Step
     requires { ⌜ Readable (now words) at left ⌝ }
     ensures { λ r. ⌜ r ≡ stepOf limits pixel (now (words .entry)) at left ⌝ }
 {
     let group = read_group(words, at, left, limits);
     let size = group.size;
-    let span = size + group.seen.literals as usize;
-    if size == 0 {
-        return Step::Broken(Rule::GroupShape, 0);
+    let span = units::slot_behind(size, Slots(group.seen.literals as usize));
+    if !units::is_slot_below(Slots(0), size) {
+        return Step::Broken(Rule::GroupShape, Slots(0));
     }
-    if left < span {
-        return Step::Broken(Rule::GroupShape, 0);
+    if units::is_slot_below(left, span) {
+        return Step::Broken(Rule::GroupShape, Slots(0));
     }
-    let fault = groups::group_fault(group.seen, size, pixel & (span == left));
+    let ends = !units::is_slot_below(span, left);
+    let fault = groups::group_fault(group.seen, size, pixel & ends);
     match fault {
         GroupFault::Broken(rule, behind) => Step::Broken(rule, behind),
         GroupFault::Clean => {
@@ -122,24 +122,29 @@ fn judge_group(words: &[u32], at: usize, left: usize, limits: Limits, pixel: boo
     }
 }
 
-// The group that starts at word `at`, with so many slots left in its clause.
-fn read_group(words: &[u32], at: usize, left: usize, limits: Limits) -> Group
+// The group whose first slot is quadword `at`, with so many slots left in its clause.
+fn read_group(words: &[u32], at: Quadwords, left: Slots, limits: Limits) -> Group
     requires { ⌜ Readable (now words) at left ⌝ }
     ensures { λ r. ⌜ r ≡ groupOf limits (now (words .entry)) at left ⌝ }
 {
-    let first = words[at + 1];
+    // Words are counted plainly inside a group, whose instruction j starts 2j words behind its first.
+    let first = units::low_word(at).0;
+    let first_high = words[first + 1];
     let mut seen = groups::none_seen();
     let mut j = 0;
     while j < 5 {
-        if left <= j {
+        if !units::is_slot_below(Slots(j), left) {
             return no_group();
         }
-        let low = words[at + 2 * j];
-        let high = words[at + 2 * j + 1];
-        seen = groups::read_instruction(seen, limits, j, first, low, high);
+        let low = words[first + 2 * j];
+        let high = words[first + 2 * j + 1];
+        seen = groups::read_instruction(seen, limits, Slots(j), first_high, low, high);
         j += 1;
         if field(low, 31, 1) == 1 {
-            return Group { size: j, seen };
+            return Group {
+                size: Slots(j),
+                seen,
+            };
         }
     }
     no_group()
@@ -149,18 +154,18 @@ fn no_group() -> Group
     ensures { λ r. ⌜ r ≡ noGroup ⌝ }
 {
     Group {
-        size: 0,
+        size: Slots(0),
         seen: groups::none_seen(),
     }
 }
 
-fn refused(rule: Rule, place: Quadwords, slot: usize) -> Verdict
-    ensures { λ r. ⌜ r ≡ Refused rule (Quadword place) (counted.slots slot) ⌝ }
+fn refused(rule: Rule, place: Quadwords, slot: Slots) -> Verdict
+    ensures { λ r. ⌜ r ≡ Refused rule (Quadword place) slot ⌝ }
 {
     Verdict::Refused {
         rule,
         place: Place::Quadword(place),
-        slot: Slots(slot),
+        slot,
     }
 }
 
@@ -169,7 +174,7 @@ fn push_verdict(push_before: bool, setters: Count, place: Quadwords) -> Verdict
     ensures { λ r. ⌜ r ≡ pushVerdict «push_before» setters place ⌝ }
 {
     if push_before & !groups::counts::is_one(setters) {
-        return refused(Rule::IssueLimit, place, 0);
+        return refused(Rule::IssueLimit, place, Slots(0));
     }
     Verdict::Accepted
 }
@@ -185,9 +190,12 @@ fn is_pixel(kind: Kind) -> bool
 }
 
 // Whether the clause lies in a buffer of so many words. Where it does not, rule 6 has refused it.
-fn is_inside(length: usize, start: Quadwords, slots: Slots) -> bool
-    ensures { λ r. ⌜ r ≡ insideBuffer length start slots ⌝ }
+fn is_inside(buffer: Words, start: Quadwords, slots: Slots) -> bool
+    ensures { λ r. ⌜ r ≡ insideBuffer buffer start slots ⌝ }
 {
-    let end = units::range_end(start, units::slots_length(slots));
-    units::is_at_most(end, units::whole_quadwords(Words(length)))
+    units::ends_by(
+        start,
+        units::slots_length(slots),
+        units::whole_quadwords(buffer),
+    )
 }

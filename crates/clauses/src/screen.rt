@@ -6,6 +6,8 @@ use groups::alu_units;
 use groups::counts::Count;
 use instructions::class_of;
 use opcodes::alu::Class;
+use units::Quadwords;
+use units::Slots;
 ghost use mathlib.Core.Path.{_≡_};
 ghost use Prim.Native.Nat.{_≤_, _<_, min};
 ghost use Rattle.bits.specs.Fields.{fieldOf};
@@ -14,24 +16,25 @@ ghost use Rattle.clauses.specs.Read.{Readable};
 ghost use Rattle.clauses.specs.Screen.{ScreenedBy, Closes, isWrong};
 
 // The slots that a group takes and the setters in it. No slots: it has to be looked at again.
-pub struct Glance {
-    pub span: usize,
+pub(crate) struct Glance {
+    pub span: Slots,
     pub setters: Count,
 }
 
 fn again() -> Glance
-    ensures { λ r. ⌜ r .span ≡ 0 ⌝ }
+    ensures { λ r. ⌜ r .span .0 ≡ 0 ⌝ }
 {
     Glance {
-        span: 0,
+        span: Slots(0),
         setters: Count::Nothing,
     }
 }
 
-fn fewer(a: usize, b: usize) -> usize
-    ensures { λ r. ⌜ r ≡ min a b ⌝ }
+// The instructions of a group that may be read: five, or those left in its clause.
+fn most_instructions(left: Slots) -> usize
+    ensures { λ r. ⌜ r ≡ min (left .0) 5 ⌝ }
 {
-    if a < b { a } else { b }
+    if left.0 < 5 { left.0 } else { 5 }
 }
 
 // The unit that an instruction of this class gets.
@@ -61,11 +64,11 @@ fn is_wrong(
     !number | alu_units::is_bad_unit(taken, unit, field(high, 18, 3))
 }
 
-// The group that starts at word `at`, with so many slots left in its clause, by the gaps of the clause's limits.
+// The group whose first slot is quadword `at`, with so many slots left in its clause, by the gaps of the clause's limits.
 pub(crate) fn screen_group(
     words: &[u32],
-    at: usize,
-    left: usize,
+    at: Quadwords,
+    left: Slots,
     starts: &[u32; 32],
     widths: &[u32; 32],
     pixel: bool,
@@ -73,16 +76,18 @@ pub(crate) fn screen_group(
     requires { ⌜ Readable (now words) at left ⌝ }
     ensures { λ r. ⌜ ScreenedBy (now (starts .entry)) (now (widths .entry)) (now (words .entry)) at left pixel r ⌝ }
 {
-    let first = words[at + 1];
-    let most = fewer(left, 5);
+    // Words are counted plainly inside a group, whose instruction j starts 2j words behind its first: this loop is the judge's innermost.
+    let first = units::low_word(at).0;
+    let first_high = words[first + 1];
+    let most = most_instructions(left);
     let none = groups::none_seen();
     let mut literals = 0;
     let mut taken = 0;
     let mut issues = none.issues;
     let mut j = 0;
     while j < most {
-        let low = words[at + 2 * j];
-        let high = words[at + 2 * j + 1];
+        let low = words[first + 2 * j];
+        let high = words[first + 2 * j + 1];
         let class = class_of(high);
         let issue = class.issue;
         let unit = unit_of(taken, class, high);
@@ -90,28 +95,29 @@ pub(crate) fn screen_group(
             return again();
         }
         let relative = instructions::has_relative(low, high);
-        let uneven = alu_units::is_uneven(j, unit, first, high);
+        let uneven = alu_units::is_uneven(Slots(j), unit, first_high, high);
         issues = groups::next_issues(issues, issue, relative, uneven);
         literals = screens::more_literals(literals, low, high);
-        taken = alu_units::take(taken, unit);
+        taken = alu_units::occupy(taken, unit);
         j += 1;
         if field(low, 31, 1) == 1 {
-            return close(issues, j, literals, left, pixel);
+            return close(issues, Slots(j), literals, left, pixel);
         }
     }
     again()
 }
 
 // The group at its last instruction: rules 10 and 14.
-fn close(issues: Issues, size: usize, literals: u32, left: usize, pixel: bool) -> Glance
-    requires { ⌜ size ≤ 5 ⌝ }
-    ensures { λ r. ⌜ (0 < r .span → Closes issues size literals left pixel r) ⌝ }
+fn close(issues: Issues, size: Slots, literals: u32, left: Slots, pixel: bool) -> Glance
+    requires { ⌜ size .0 ≤ 5 ⌝ }
+    ensures { λ r. ⌜ (0 < r .span .0 → Closes issues size literals left pixel r) ⌝ }
 {
-    let span = size + literals as usize;
-    if left < span {
+    let span = units::slot_behind(size, Slots(literals as usize));
+    if units::is_slot_below(left, span) {
         return again();
     }
-    if groups::is_bad_issue(issues, size, pixel & (span == left)) {
+    let ends = !units::is_slot_below(span, left);
+    if groups::is_bad_issue(issues, size, pixel & ends) {
         return again();
     }
     let setters = issues.setters;

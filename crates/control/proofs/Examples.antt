@@ -4,13 +4,13 @@ use mathlib.Core.Bool.{Bool, true, false}
 use mathlib.Core.List.{List, [], _∷_, _++_, map}
 use Prim.Native.Nat.{ℕ, _+_, _^_}
 use lib.ListN.{replicate}
-use Rattle.units.specs.Units.{quadwords, slots}
+use Rattle.units.specs.Units.{quadwords, slots, lowAt, highAt}
 use Rattle.card.specs.declared.Kind.the-variants.{Pixel, Vertex, Geometry}
 use Rattle.grants.specs.Grants.{register}
 use Rattle.control.specs.declared.Control.the-variants.{Nop, Tex, Vtx, VtxTc, LoopEnd, LoopStart, Jump, Pop, Export, Alu, PushBefore}
 use Rattle.control.specs.declared.Clause.{Clause}
 use Rattle.control.specs.declared.Clause.the-variants.{NoClause, AluClause, FetchClause}
-use Rattle.control.specs.Control.{lowAt, highAt, isAluOpener, aluControl, cfControl, controlOf, controlAt, isEnd, endFrom, endOf}
+use Rattle.control.specs.Control.{isAluOpener, aluControl, cfControl, controlOf, controlAt, isEnd, endFrom, endOf}
 use Rattle.control.specs.Rules.{badLength, noEnd, isNotTaken, badModes, badStill, badBranch, badReserved, badField, aluClause, fetchClause, clauseOf, outside, badRange, pixelTarget, vertexTarget, badTarget, badSelectors, badExportRegister, exportRule, isExport, badExport, exportNames}
 
 -- ---- the packs, words low, high

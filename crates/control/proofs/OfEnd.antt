@@ -4,26 +4,41 @@ use mathlib.Core.Path.{_≡_, refl, sym, ap, _∙_}
 use mathlib.Core.Bool.{Bool, true, false, cond}
 use mathlib.Core.Logic.{⊎-elim}
 use mathlib.Core.List.{List}
-use Prim.Native.Nat.{ℕ, zero, suc, _+_, _*_, _-_, _≤_, _<_}
+use Prim.Native.Nat.{ℕ, zero, suc, _+_, _*_, _-_, _^_, _≤_, _<_}
 use native.Mathlib.Nat.{eq-or-lt-of-le}
 use native.Mathlib.Numerals.{add-one}
 use native.Mathlib.Omega.{arith}
 use lib.ListN.{length, getD}
-use borrow.Author.Tests.{leb-false}
+use borrow.Author.Tests.{leb-false, ltb-true, ltb-false}
 use Rattle.units.specs.declared.Quadwords.{Quadwords}
 use Rattle.units.specs.declared.Words.{Words}
-use Rattle.units.specs.Units.{capped, quadwords, highWord}
-use Rattle.control.specs.Control.{highAt, isEnd, searched, endFrom, endOf}
+use Rattle.units.specs.Units.{capped, quadwords, highWord, highAt, wordsIn64, quadwordsIn64, quadwordBehind, isBelow}
+use Rattle.units.proofs.OfUnits.{behind-exact}
+use Rattle.control.specs.Control.{isEnd, searched, endFrom, endOf}
 use Rattle.control.specs.Rules.{noEnd}
 
 -- ---- the search, pair by pair
 
--- the high word of one of the pairs searched, which lies in the buffer
-pub high-word-of : (w : List ℕ) (q : Quadwords) (p : ℕ) (at : Words) → q ≡ quadwords (searched w) → p < q .0 → at ≡ highWord (quadwords p) → (at .0 ≡ 2 * p + 1) × (at .0 < length w) × (at .0 < 1024)
-high-word-of w q p at e h f =
+-- one of the pairs searched: its high word lies in the buffer, and no count here comes near the cap
+pub record Searched (w : List ℕ) (q p : Quadwords) : Type 0 where
+  pub below : p .0 < q .0
+  pub most : q .0 ≤ 512
+  pub inside : 2 * p .0 + 1 < length w
+
+pub is-searched : (w : List ℕ) (q p : Quadwords) (t : Bool) → q ≡ quadwords (searched w) → t ≡ isBelow p q → t ≡ true → Searched w q p
+is-searched w q p t e f h =
     let a : q .0 ≡ searched w = ap (λ (x : Quadwords). x .0) e in
-    let b : at .0 ≡ capped (2 * p + 1) = ap (λ (x : Words). x .0) f in
-    (omega arith, omega arith, omega arith)
+    let b : p .0 < q .0 = ltb-true (p .0) (q .0) (sym f ∙ h) in
+    record { below = b; most = omega arith; inside = omega arith }
+
+module _ (w : List ℕ) (q p : Quadwords) (s : Searched w q p) where
+  pub high-word-of : (at : Words) → at ≡ wordsIn64 (highWord p) → at .0 ≡ 2 * p .0 + 1
+  high-word-of at f =
+      let b : at .0 ≡ capped (2 * p .0 + 1) = ap (λ (x : Words). x .0) f in
+      omega (arith, s .below, s .most)
+
+  pub next-pair : (r : Quadwords) → r ≡ quadwordsIn64 (quadwordBehind p) → r .0 ≡ p .0 + 1
+  next-pair r f = behind-exact p r f (omega (arith, s .below, s .most))
 
 pub end-first : (w : List ℕ) (q : Quadwords) → q ≡ quadwords (searched w) → endFrom w 0 (q .0 - 0) ≡ endOf w
 unfolding endOf
@@ -45,10 +60,10 @@ module _ (w : List ℕ) (p n : ℕ) (i : endFrom w p (n - p) ≡ endOf w) where
     unfolding endFrom
     end-found g = ap quadwords (rw (told true g) at (rw one-more at i))
 
-    pub end-next : t ≡ false → endFrom w (p + 1) (n - (p + 1)) ≡ endOf w
+    pub end-next : (k : ℕ) → k ≡ p + 1 → t ≡ false → endFrom w k (n - k) ≡ endOf w
     unfolding endFrom
-    end-next g =
-        let a : p + 1 ≡ suc p = add-one p in
+    end-next k z g =
+        let a : k ≡ suc p = z ∙ add-one p in
         (λ j. endFrom w (a j) (n - a j)) ∙ rw (told false g) at (rw one-more at i)
 
   pub end-none : p ≤ n → n ≤ p → quadwords n ≡ quadwords (endOf w)

@@ -8,9 +8,7 @@ use lib.Dec.{eqb, ltb, leb}
 use lib.ListN.{length}
 use borrow.Author.Tests.{eqb-true, ltb-true, leb-true, lt-ltb, not-false}
 use Rattle.units.specs.declared.Quadwords.{Quadwords}
-use Rattle.units.specs.declared.Slots.{Slots}
-use Rattle.units.specs.Units.{capped, slotsLength, fetchesLength, isBelow}
-use Rattle.units.proofs.OfUnits.{capped-exact}
+use Rattle.units.specs.Units.{rangeEnd, isBelow, isAtMost}
 use Rattle.bits.specs.Fields.{fieldOf}
 use Rattle.card.specs.declared.Kind.{Kind}
 use Rattle.grants.specs.declared.Limits.{Limits}
@@ -18,12 +16,8 @@ use Rattle.grants.specs.Grants.{Name, granted, allGranted}
 use Rattle.grants.proofs.OfGrants.{each-granted}
 use Rattle.control.specs.declared.Control.{Control}
 use Rattle.control.specs.declared.Control.the-variants.{NotTaken, Nop, Tex, Vtx, VtxTc, LoopEnd, LoopStart, LoopContinue, LoopBreak, Jump, Else, Pop, Export, ExportDone, Alu, PushBefore, PopAfter, Pop2After}
-use Rattle.control.specs.declared.Clause.{Clause}
-use Rattle.control.specs.declared.Clause.the-variants.{NoClause, AluClause, FetchClause}
-use Rattle.control.specs.declared.family.Family.{Family}
-use Rattle.control.specs.declared.family.Family.the-variants as family
 use Rattle.control.specs.Control.{isAluOpener, isEnd, controlOf}
-use Rattle.control.specs.Rules.{badLength, familyOf, isNotTaken, badModes, badBranch, badField, aluClause, fetchClause, clauseIn, clauseOf, outside, badRange, badTarget, badSelectors, badExportRegister, exportRule, isExport, badExport, registersFrom, exportNames}
+use Rattle.control.specs.Rules.{badLength, isNotTaken, badModes, badBranch, badField, outside, badTarget, badSelectors, badExportRegister, exportRule, isExport, badExport, registersFrom, exportNames}
 use Rattle.control.proofs.OfControl.{isAlu, not-alu}
 
 -- ---- tests joined by and, or
@@ -107,105 +101,17 @@ may-end Pop2After hi b a t f = let z : _≡_ {A = ℕ} 0 1 = cc in absurd (omega
 pub at-end : (hi : ℕ) → isEnd hi ≡ true → isNotTaken (controlOf hi) ≡ false → badField (controlOf hi) hi ≡ false → MayEnd (controlOf hi)
 at-end hi h t f = may-end (controlOf hi) hi (branch-at-end hi h) (not-alu hi (end-no-opener hi h)) t f
 
--- ---- 6: a clause's fields, and where it lies, in plain numbers
+-- ---- 6: a range that is not outside starts behind e and ends by quads
 
--- an ALU clause: ADDR has 22 bits, COUNT 7
-pub record AluFields (lo hi : ℕ) (s : Quadwords) (n : Slots) : Type 0 where
-  pub start : s .0 ≡ fieldOf lo 0 22
-  pub count : n .0 ≡ fieldOf hi 18 7 + 1
-  pub start-below : s .0 < 2 ^ 22
-  pub some : 1 ≤ n .0
-  pub most : n .0 ≤ 128
-
--- a fetch clause: ADDR is the low word, COUNT has 4 bits
-pub record FetchFields (lo hi : ℕ) (s : Quadwords) (n : Slots) : Type 0 where
-  pub start : s .0 ≡ lo
-  pub count : n .0 ≡ fieldOf hi 10 3 + 8 * fieldOf hi 19 1 + 1
-  pub some : 1 ≤ n .0
-  pub most : n .0 ≤ 16
-
-startOf : Clause → ℕ
-startOf NoClause = 0
-startOf (AluClause s n) = s .0
-startOf (FetchClause s n) = s .0
-
-countOf : Clause → ℕ
-countOf NoClause = 0
-countOf (AluClause s n) = n .0
-countOf (FetchClause s n) = n .0
-
-module _ (c : Control) (lo hi : ℕ) (s : Quadwords) (n : Slots) where
-  alu-in : (u : Family) → clauseIn u lo hi ≡ AluClause s n → AluFields lo hi s n
-  unfolding aluClause fetchClause startOf countOf
-  alu-in family.Unknown e = let z : _≡_ {A = ℕ} 0 1 = cc in absurd (omega arith)
-  alu-in family.Idle e = let z : _≡_ {A = ℕ} 0 1 = cc in absurd (omega arith)
-  alu-in family.Fetch e = let z : _≡_ {A = ℕ} 0 1 = cc in absurd (omega arith)
-  alu-in family.Branch e = let z : _≡_ {A = ℕ} 0 1 = cc in absurd (omega arith)
-  alu-in family.Exports e = let z : _≡_ {A = ℕ} 0 1 = cc in absurd (omega arith)
-  alu-in family.CfAlu e =
-      let p : s .0 ≡ fieldOf lo 0 22 = sym (ap startOf e) in
-      let q : n .0 ≡ capped (fieldOf hi 18 7 + 1) = sym (ap countOf e) in
-      record { start = p; count = omega arith; start-below = omega arith; some = omega arith; most = omega arith }
-
-  fetch-in : (u : Family) → clauseIn u lo hi ≡ FetchClause s n → FetchFields lo hi s n
-  unfolding aluClause fetchClause startOf countOf
-  fetch-in family.Unknown e = let z : _≡_ {A = ℕ} 0 1 = cc in absurd (omega arith)
-  fetch-in family.Idle e = let z : _≡_ {A = ℕ} 0 1 = cc in absurd (omega arith)
-  fetch-in family.Fetch e =
-      let p : s .0 ≡ lo = sym (ap startOf e) in
-      let q : n .0 ≡ capped (fieldOf hi 10 3 + 8 * fieldOf hi 19 1 + 1) = sym (ap countOf e) in
-      record { start = p; count = omega arith; some = omega arith; most = omega arith }
-  fetch-in family.Branch e = let z : _≡_ {A = ℕ} 0 1 = cc in absurd (omega arith)
-  fetch-in family.Exports e = let z : _≡_ {A = ℕ} 0 1 = cc in absurd (omega arith)
-  fetch-in family.CfAlu e = let z : _≡_ {A = ℕ} 0 1 = cc in absurd (omega arith)
-
-  pub alu-fields : clauseOf c lo hi ≡ AluClause s n → AluFields lo hi s n
-  unfolding clauseOf
-  alu-fields e = alu-in (familyOf c) e
-
-  pub fetch-fields : clauseOf c lo hi ≡ FetchClause s n → FetchFields lo hi s n
-  unfolding clauseOf
-  fetch-fields e = fetch-in (familyOf c) e
-
--- rule 6 in plain numbers: start is above e, start plus length at most quads. No ADDR of 32 bits comes near the cap of 64
-unfoldable pub plain : ℕ → ℕ → ℕ → ℕ → Bool
-plain e quads start length = not (ltb e start) || not (leb (start + length) quads)
-
-plain-range : (e quads s l : Quadwords) → s .0 + l .0 < 2 ^ 64 → outside e quads s l ≡ plain (e .0) (quads .0) (s .0) (l .0)
-unfolding outside plain
-plain-range e quads s l b =
-    ap (λ (k : ℕ). not (isBelow e s) || not (leb k (quads .0))) (capped-exact (s .0 + l .0) b)
-
-plain-inside : (e quads s l : ℕ) → plain e quads s l ≡ false → (e < s) × (s + l ≤ quads)
-unfolding plain
-plain-inside e quads s l h = (
-  ltb-true e s (not-false (ltb e s) (first-clean (not (ltb e s)) (not (leb (s + l) quads)) h)),
-  leb-true (s + l) quads (not-false (leb (s + l) quads) (second-clean (not (ltb e s)) (not (leb (s + l) quads)) h)),
+pub inside : (e quads start size : Quadwords) → outside e quads start size ≡ false → (e .0 < start .0) × (start .0 + size .0 ≤ quads .0)
+unfolding outside
+inside e quads start size h = (
+  ltb-true (e .0) (start .0)
+      (not-false (isBelow e start) (first-clean (not (isBelow e start)) (not (isAtMost (rangeEnd start size) quads)) h)),
+  leb-true (start .0 + size .0) (quads .0)
+      (not-false (isAtMost (rangeEnd start size) quads)
+      (second-clean (not (isBelow e start)) (not (isAtMost (rangeEnd start size) quads)) h)),
 )
-
-module _ (c : Control) (lo hi : ℕ) (e quads s : Quadwords) (n : Slots) where
-  -- an ALU clause's quadwords are s to s + n - 1
-  pub alu-range : clauseOf c lo hi ≡ AluClause s n → badRange e quads (clauseOf c lo hi) ≡ plain (e .0) (quads .0) (s .0) (n .0)
-  unfolding badRange
-  alu-range h =
-      let f = alu-fields c lo hi s n h in
-      ap (badRange e quads) h ∙ plain-range e quads s (slotsLength n) (omega (arith, f .start-below, f .most))
-
-  pub alu-inside : clauseOf c lo hi ≡ AluClause s n → badRange e quads (clauseOf c lo hi) ≡ false → (e .0 < s .0) × (s .0 + n .0 ≤ quads .0)
-  alu-inside h clean = plain-inside (e .0) (quads .0) (s .0) (n .0) (sym (alu-range h) ∙ clean)
-
-  -- a fetch clause's quadwords are s to s + 2 n - 1
-  pub fetch-range : lo < 2 ^ 32 → clauseOf c lo hi ≡ FetchClause s n → badRange e quads (clauseOf c lo hi) ≡ plain (e .0) (quads .0) (s .0) (2 * n .0)
-  unfolding badRange
-  fetch-range b h =
-      let f = fetch-fields c lo hi s n h in
-      let two : capped (2 * n .0) ≡ 2 * n .0 = omega (arith, f .most) in
-      ap (badRange e quads) h
-      ∙ plain-range e quads s (fetchesLength n) (omega (arith, f .start, f .most, two))
-      ∙ ap (plain (e .0) (quads .0) (s .0)) two
-
-  pub fetch-inside : lo < 2 ^ 32 → clauseOf c lo hi ≡ FetchClause s n → badRange e quads (clauseOf c lo hi) ≡ false → (e .0 < s .0) × (s .0 + 2 * n .0 ≤ quads .0)
-  fetch-inside b h clean = plain-inside (e .0) (quads .0) (s .0) (2 * n .0) (sym (fetch-range b h) ∙ clean)
 
 -- ---- 7: every register that an export names is granted
 

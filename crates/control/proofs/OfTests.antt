@@ -1,6 +1,6 @@
 -- Rules 2 to 7 by what the code tests, test by test. Assumes nothing.
 use mathlib.Core.Path.{_≡_, refl, sym, ap, _∙_}
-use mathlib.Core.Bool.{Bool, true, false, not}
+use mathlib.Core.Bool.{Bool, true, false, not, _||_}
 use mathlib.Core.List.{List}
 use Prim.Native.Nat.{ℕ, _+_, _*_, _/_, _^_, _≤_, _<_}
 use native.Mathlib.Omega.{arith}
@@ -10,7 +10,8 @@ use borrow.Author.Tests.{eq-eqb, ne-eqb, lt-ltb, le-ltb, le-leb, lt-leb, eqb-tru
 use Rattle.units.specs.declared.Quadwords.{Quadwords}
 use Rattle.units.specs.declared.Words.{Words}
 use Rattle.units.specs.declared.Slots.{Slots}
-use Rattle.units.specs.Units.{capped, quadwords, words, wholeQuadwords, wordsOf, rangeEnd, isBelow, isAtMost, slotsLength, fetchesLength}
+use Rattle.units.specs.Units.{capped, quadwords, slots, words, quadwordsIn64, slotsIn64, wordsIn64, wholeQuadwords, wordsOf, counted, rangeEnd, isBelow, isAtMost, slotsLength, fetchesLength}
+use Rattle.units.proofs.OfUnits.{capped-exact}
 use Rattle.bits.specs.Fields.{fieldOf}
 use Rattle.card.specs.declared.Kind.{Kind}
 use Rattle.control.specs.declared.Clause.{Clause}
@@ -46,7 +47,7 @@ is-told e h = sym e ∙ h
 -- ---- 2
 
 -- no slice is as long as the cap, so that a capped length is never taken for a true one
-pub length-told : (w : List ℕ) (q : Quadwords) (n : Words) → length w * 4 < 2 ^ 63 → n ≡ wordsOf q → not (eqb (length w) (n .0)) ≡ badLength w q
+pub length-told : (w : List ℕ) (q : Quadwords) (n : Words) → length w * 4 < 2 ^ 63 → n ≡ wordsIn64 (wordsOf q) → not (eqb (length w) (n .0)) ≡ badLength w q
 unfolding badLength
 length-told w q n h e = ap not (by (eqb (length w) (2 * q .0)) refl)
   where
@@ -125,28 +126,49 @@ module _ (hi : ℕ) where
 
 -- ---- 6
 
-module _ (e quads start length : Quadwords) where
-  pub not-behind : isBelow e start ≡ false → true ≡ outside e quads start length
+module _ (e quads start size : Quadwords) where
+  pub not-behind : isBelow e start ≡ false → true ≡ outside e quads start size
   unfolding outside
   not-behind a = rw a
 
-  pub not-inside : isBelow e start ≡ true → not (isAtMost (rangeEnd start length) quads) ≡ outside e quads start length
+  pub not-inside : isBelow e start ≡ true → not (isAtMost (rangeEnd start size) quads) ≡ outside e quads start size
   unfolding outside
   not-inside a = rw a
+
+-- a length at the cap of 64 bits lies outside as the true one does: a start behind the end is not 0
+capped-outside : (e quads start size : Quadwords) → quads .0 < 2 ^ 64 → outside e quads start (quadwordsIn64 size) ≡ outside e quads start size
+unfolding outside
+capped-outside e quads start size h = by (isBelow e start) refl
+  where
+    at-most : e .0 < start .0 → (t : Bool) → isAtMost (rangeEnd start size) quads ≡ t → isAtMost (rangeEnd start (quadwordsIn64 size)) quads ≡ t
+    at-most l true p = le-leb _ (quads .0) (omega (arith, leb-true (start .0 + size .0) (quads .0) p))
+    at-most l false p = lt-leb _ (quads .0) (omega (arith, leb-false (start .0 + size .0) (quads .0) p))
+
+    by : (t : Bool) → isBelow e start ≡ t → (not t || not (isAtMost (rangeEnd start (quadwordsIn64 size)) quads)) ≡ (not t || not (isAtMost (rangeEnd start size) quads))
+    by true p = ap not (at-most (ltb-true (e .0) (start .0) p) (isAtMost (rangeEnd start size) quads) refl)
+    by false p = refl
+
+-- a COUNT field is far from the cap
+pub counted-exact : (field : ℕ) → field < 2 ^ 32 → slotsIn64 (counted (slots field)) ≡ counted (slots field)
+counted-exact field h = ap slots (capped-exact (field + 1) (omega arith))
 
 module _ (e quads : Quadwords) (clause : Clause) where
   pub range-none : clause ≡ NoClause → false ≡ badRange e quads clause
   unfolding badRange
   range-none h = ap (badRange e quads) (sym h)
 
-  module _ (start : Quadwords) (n : Slots) (length : Quadwords) (r : Bool) (p : r ≡ outside e quads start length) where
-    pub range-slots : clause ≡ AluClause start n → length ≡ slotsLength n → r ≡ badRange e quads clause
+  module _ (start : Quadwords) (n : Slots) (size : Quadwords) (r : Bool) (p : r ≡ outside e quads start size) where
+    pub range-slots : clause ≡ AluClause start n → size ≡ slotsLength n → r ≡ badRange e quads clause
     unfolding badRange
     range-slots h q = p ∙ ap (outside e quads start) q ∙ ap (badRange e quads) (sym h)
 
-    pub range-fetches : clause ≡ FetchClause start n → length ≡ fetchesLength n → r ≡ badRange e quads clause
+    pub range-fetches : quads .0 < 2 ^ 64 → clause ≡ FetchClause start n → size ≡ quadwordsIn64 (fetchesLength n) → r ≡ badRange e quads clause
     unfolding badRange
-    range-fetches h q = p ∙ ap (outside e quads start) q ∙ ap (badRange e quads) (sym h)
+    range-fetches b h q =
+        p
+        ∙ ap (outside e quads start) q
+        ∙ capped-outside e quads start (fetchesLength n) b
+        ∙ ap (badRange e quads) (sym h)
 
 -- ---- 7
 

@@ -1,19 +1,13 @@
 -- Control-flow pairs by their numbers, and the end of their section: document 01, "Control-flow words".
-use Prim.Native.Nat.{ℕ, zero, suc, _+_, _*_, _/_, min}
+use Prim.Native.Nat.{ℕ, zero, suc, min}
 use mathlib.Core.Bool.{Bool, cond, not, _&&_}
 use mathlib.Core.List.{List}
 use lib.Dec.{eqb}
-use lib.ListN.{length, getD}
+use lib.ListN.{length}
+use Rattle.units.specs.Units.{words, wholeQuadwords, highAt}
 use Rattle.bits.specs.Fields.{fieldOf}
 use Rattle.control.specs.declared.Control.{Control}
 use Rattle.control.specs.declared.Control.the-variants.{NotTaken, Nop, Tex, Vtx, VtxTc, LoopEnd, LoopStart, LoopContinue, LoopBreak, Jump, Else, Pop, Export, ExportDone, Alu, PushBefore, PopAfter, Pop2After}
-
--- quadword p of the words: word 2p (low) and word 2p+1 (high); 0 where there is none
-unfoldable pub lowAt : List ℕ → ℕ → ℕ
-lowAt w p = getD w (2 * p) 0
-
-unfoldable pub highAt : List ℕ → ℕ → ℕ
-highAt w p = getD w (2 * p + 1) 0
 
 -- a pair with high bit 29 set is an ALU clause opener (CF_ALU)
 unfoldable pub isAluOpener : ℕ → Bool
@@ -51,13 +45,14 @@ controlOf hi = cond (isAluOpener hi) (aluControl (fieldOf hi 26 4)) (cfControl (
 unfoldable pub controlAt : List ℕ → ℕ → Control
 controlAt w p = controlOf (highAt w p)
 
--- ---- the end, e: the first pair with bit 29 clear and bit 21 set. It is looked for among the first 512 pairs of the buffer
+-- ---- the end, e: the first pair with bit 29 clear and bit 21 set. It is looked for among the first 512 pairs of the buffer. Pairs
+-- are quadwords, counted from 0
 
 unfoldable pub isEnd : ℕ → Bool
 isEnd hi = not (isAluOpener hi) && eqb (fieldOf hi 21 1) 1
 
 abbrev pub searched : List ℕ → ℕ
-searched w = min 512 (length w / 2)
+searched w = min 512 (wholeQuadwords (words (length w)) .0)
 
 -- the first end among the n pairs from p on, and the pair behind them where there is none
 unfoldable pub endFrom : List ℕ → ℕ → ℕ → ℕ

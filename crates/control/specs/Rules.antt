@@ -6,7 +6,7 @@ use mathlib.Core.List.{List, [], _∷_}
 use lib.Dec.{eqb, ltb, leb}
 use lib.ListN.{length}
 use Rattle.units.specs.declared.Quadwords.{Quadwords}
-use Rattle.units.specs.Units.{quadwords, slots, counted, slotsLength, fetchesLength, rangeEnd, isBelow, isAtMost}
+use Rattle.units.specs.Units.{quadwords, slots, wordsOf, counted, slotsLength, fetchesLength, rangeEnd, isBelow, isAtMost}
 use Rattle.bits.specs.Fields.{fieldOf}
 use Rattle.card.specs.declared.Kind.{Kind}
 use Rattle.card.specs.declared.Kind.the-variants.{Pixel, Vertex, Geometry}
@@ -21,7 +21,7 @@ use Rattle.control.specs.Control.{searched, endOf}
 
 -- 2: length is not 2 times quads words
 unfoldable pub badLength : List ℕ → Quadwords → Bool
-badLength w quads = not (eqb (length w) (2 * quads .0))
+badLength w quads = not (eqb (length w) (wordsOf quads .0))
 
 -- 3: none of the first 512 pairs in the buffer is an end
 unfoldable pub noEnd : List ℕ → Bool
@@ -113,9 +113,9 @@ clauseIn family.CfAlu lo hi = aluClause lo hi
 unfoldable pub clauseOf : Control → ℕ → ℕ → Clause
 clauseOf c lo hi = clauseIn (familyOf c) lo hi
 
--- not (start is above e, and start plus length at most quads)
+-- not (start is above e, and start plus length, here size, at most quads)
 unfoldable pub outside : Quadwords → Quadwords → Quadwords → Quadwords → Bool
-outside e quads start length = not (isBelow e start) || not (isAtMost (rangeEnd start length) quads)
+outside e quads start size = not (isBelow e start) || not (isAtMost (rangeEnd start size) quads)
 
 -- of the end e, quads and a clause: COUNT+1 slots of one quadword each, or COUNT+1 fetches of two, wholly behind e and inside the
 -- buffer

@@ -5,7 +5,7 @@ ghost use Rattle.control.specs.Rules.{pixelTarget, vertexTarget, badTarg
 use bits::field;
 use card::Kind;
 
-pub fn is_bad_export_pair(kind: Kind, gprs: u32, low: u32, high: u32) -> bool
+pub(crate) fn is_bad_export_pair(kind: Kind, gprs: u32, low: u32, high: u32) -> bool
     ensures { λ r. ⌜ r ≡ exportRule kind gprs low high ⌝ }
 {
     if is_bad_target(kind, low, high) {

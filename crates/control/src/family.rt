@@ -14,7 +14,7 @@ pub enum Family {
     CfAlu,
 }
 
-pub fn family_of(control: Control) -> Family
+pub(crate) fn family_of(control: Control) -> Family
     ensures { λ r. ⌜ r ≡ familyOf control ⌝ }
 {
     match control {

@@ -14,7 +14,7 @@ fn has_both_modes(high: u32) -> bool
 }
 
 // NOP and fetches: no condition.
-pub fn is_bad_still(high: u32) -> bool
+pub(crate) fn is_bad_still(high: u32) -> bool
     ensures { λ r. ⌜ r ≡ badStill high ⌝ }
 {
     if field(high, 20, 1) == 1 {
@@ -27,7 +27,7 @@ pub fn is_bad_still(high: u32) -> bool
 }
 
 // Those that move the stack or go to ADDR: no end bit.
-pub fn is_bad_branch(high: u32) -> bool
+pub(crate) fn is_bad_branch(high: u32) -> bool
     ensures { λ r. ⌜ r ≡ badBranch high ⌝ }
 {
     if field(high, 20, 1) == 1 {
@@ -40,7 +40,7 @@ pub fn is_bad_branch(high: u32) -> bool
 }
 
 // Exports, whose bit 20 is BURST_COUNT's.
-pub fn is_bad_reserved(high: u32) -> bool
+pub(crate) fn is_bad_reserved(high: u32) -> bool
     ensures { λ r. ⌜ r ≡ badReserved high ⌝ }
 {
     if field(high, 12, 5) != 0 {

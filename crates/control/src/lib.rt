@@ -82,16 +82,16 @@ pub fn searched_pairs(words: &[u32]) -> Quadwords
 pub fn find_end(words: &[u32]) -> Quadwords
     ensures { λ r. ⌜ r ≡ quadwords (endOf (now (words .entry))) ⌝ }
 {
-    let pairs = searched_pairs(words).0;
-    let mut p = 0;
-    while p < pairs {
-        let at = units::high_word(Quadwords(p)).0;
+    let pairs = searched_pairs(words);
+    let mut p = Quadwords(0);
+    while units::is_below(p, pairs) {
+        let at = units::high_word(p).0;
         if numbers::is_end(words[at]) {
-            return Quadwords(p);
+            return p;
         }
-        p += 1;
+        p = units::quadword_behind(p);
     }
-    Quadwords(pairs)
+    pairs
 }
 
 // Rule 4.
@@ -173,15 +173,14 @@ pub fn is_bad_range(end: Quadwords, quads: Quadwords, clause: Clause) -> bool
     }
 }
 
-// Units adds in 64 bits, so that no ADDR of 32 bits wraps round.
-fn is_outside(end: Quadwords, quads: Quadwords, start: Quadwords, length: Quadwords) -> bool
-    ensures { λ r. ⌜ r ≡ outside end quads start length ⌝ }
+// Behind the end, and inside the buffer.
+fn is_outside(end: Quadwords, quads: Quadwords, start: Quadwords, size: Quadwords) -> bool
+    ensures { λ r. ⌜ r ≡ outside end quads start size ⌝ }
 {
     if !units::is_below(end, start) {
         return true;
     }
-    let behind = units::range_end(start, length);
-    !units::is_at_most(behind, quads)
+    !units::ends_by(start, size, quads)
 }
 
 // Rule 7, which no other pair breaks.

@@ -5,14 +5,14 @@ use crate::Control;
 use bits::field;
 
 // Bit 29 of the high word tells an ALU clause opener (CF_ALU) from any other pair.
-pub fn is_alu_opener(high: u32) -> bool
+pub(crate) fn is_alu_opener(high: u32) -> bool
     ensures { λ r. ⌜ r ≡ isAluOpener high ⌝ }
 {
     field(high, 29, 1) == 1
 }
 
 // The end bit, 21, which in an ALU clause opener is part of COUNT.
-pub fn is_end(high: u32) -> bool
+pub(crate) fn is_end(high: u32) -> bool
     ensures { λ r. ⌜ r ≡ isEnd high ⌝ }
 {
     if is_alu_opener(high) {
@@ -22,7 +22,7 @@ pub fn is_end(high: u32) -> bool
 }
 
 // An ALU clause opener's number.
-pub fn alu_control(number: u32) -> Control
+pub(crate) fn alu_control(number: u32) -> Control
     ensures { λ r. ⌜ r ≡ aluControl number ⌝ }
 {
     match number {
@@ -35,7 +35,7 @@ pub fn alu_control(number: u32) -> Control
 }
 
 // Any other pair's number.
-pub fn cf_control(number: u32) -> Control
+pub(crate) fn cf_control(number: u32) -> Control
     ensures { λ r. ⌜ r ≡ cfControl number ⌝ }
 {
     match number {

@@ -1,1 +1,2 @@
 -- The laws that proofs cite.
+pub mod OfPacked

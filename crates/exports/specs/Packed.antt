@@ -1,22 +1,20 @@
--- A verdict as one number, for C: the verdict's number in bits 7:0, the place in bits 31:8, the slot in bits 63:32.
-use Prim.Native.Nat.{ℕ, _+_, _*_, _/_, _%_, _^_}
-use mathlib.Core.Bool.{cond}
-use lib.Dec.{eqb}
+-- A verdict as one number of 64 bits, for C: the verdict's number in bits 7:0, its place in bits 31:16, its slot in bits 47:32. Bits 15:8
+-- are kept for the operand at fault; they and all behind the slot are 0.
+use Prim.Native.Nat.{ℕ}
+use mathlib.Core.Path.{_≡_}
+use mathlib.Core.List.{[], _∷_}
+use Rattle.bits.specs.Fields.{fieldOf, pack}
 use Rattle.checks.specs.declared.Verdict.{Verdict}
 use Rattle.checks.specs.Verdict.{verdictNumber, verdictPlace, verdictSlot}
-use Rattle.card.specs.declared.Kind.{Kind}
-use Rattle.card.specs.declared.Kind.the-variants.{Pixel, Vertex, Geometry}
-use Rattle.grants.specs.declared.Limits.{Limits}
 
--- a place or slot that its bits don't hold is cut to them: no pack has one
+-- a row of fields of 8, 8, 16 and 16 bits, lowest first. A value that its bits don't hold is cut to them: no verdict on a pack has one
 unfoldable pub packed : Verdict → ℕ
-packed v = verdictNumber v + (verdictPlace v % 2 ^ 24 * 256 + verdictSlot v % 2 ^ 32 * 2 ^ 32)
+packed v = pack 0 (8 ∷ 8 ∷ 16 ∷ 16 ∷ []) (verdictNumber v ∷ 0 ∷ verdictPlace v ∷ verdictSlot v ∷ [])
 
--- the kind by its number: 0 is ps, 1 is vs, any other gs
-unfoldable pub kindOf : ℕ → Kind
-kindOf n = cond (eqb n 0) Pixel (cond (eqb n 1) Vertex Geometry)
-
--- what a clause is granted; the modes are mode 0 in bits 1:0 and mode 1 in bits 3:2
-unfoldable pub limitsOf : ℕ → ℕ → ℕ → ℕ → Limits
-limitsOf gprs temps consts modes =
-    record { gprs = gprs; temps = temps; consts = consts; mode0 = modes % 4; mode1 = modes / 4 % 4 }
+-- the verdict's three numbers are read off r as they are, and r has no other bits
+pub record ReadBack (v : Verdict) (r : ℕ) : Type 0 where
+  pub number : fieldOf r 0 8 ≡ verdictNumber v
+  pub operand : fieldOf r 8 8 ≡ 0
+  pub place : fieldOf r 16 16 ≡ verdictPlace v
+  pub slot : fieldOf r 32 16 ≡ verdictSlot v
+  pub rest : fieldOf r 48 16 ≡ 0

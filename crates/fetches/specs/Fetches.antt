@@ -1,13 +1,14 @@
 -- Rules 8 and 9 on a fetch clause: document 01, the paragraph on fetches in "Control-flow words"; the fields are those of document
 -- 002, sections 10.3 and 10.4, which both formats have at the same bits.
-use Prim.Native.Nat.{ℕ, _+_, _*_}
+use Prim.Native.Nat.{ℕ}
 use mathlib.Core.Bool.{Bool, false, cond, not, _||_}
 use mathlib.Core.List.{List, [], _∷_, _++_}
-use lib.Dec.{eqb, leb}
-use lib.ListN.{length, getD}
+use lib.Dec.{eqb}
+use lib.ListN.{length}
 use Rattle.units.specs.declared.Quadwords.{Quadwords}
 use Rattle.units.specs.declared.Slots.{Slots}
-use Rattle.units.specs.Units.{slots, fetchSlot}
+use Rattle.units.specs.declared.Words.{Words}
+use Rattle.units.specs.Units.{slots, words, lowAt, highAt, fetchSlot, fetchesLength, slotQuadword, quadwordBehind, rangeEnd, wholeQuadwords, isAtMost}
 use Rattle.bits.specs.Fields.{fieldOf}
 use Rattle.checks.specs.declared.Rule.the-variants.{FetchNumber, FetchRegister}
 use Rattle.checks.specs.declared.Place.the-variants.{Quadword}
@@ -59,27 +60,36 @@ faultOf kind limits w0 w1 w3 =
 
 -- ---- a clause
 
--- word k of fetch i of a clause that starts at quadword s: a fetch is two quadwords
-abbrev pub fetchWord : List ℕ → Quadwords → ℕ → ℕ → ℕ
-fetchWord w s i k = getD w (2 * s .0 + 4 * i + k) 0
+-- fetch i of a clause that starts at quadword s is two quadwords, the first of them this one; its words 0, 1 and 3
+abbrev pub fetchQuadword : Quadwords → ℕ → Quadwords
+fetchQuadword s i = slotQuadword s (fetchSlot (slots i))
+
+abbrev pub word0 : List ℕ → Quadwords → ℕ → ℕ
+word0 w s i = lowAt w (fetchQuadword s i .0)
+
+abbrev pub word1 : List ℕ → Quadwords → ℕ → ℕ
+word1 w s i = highAt w (fetchQuadword s i .0)
+
+abbrev pub word3 : List ℕ → Quadwords → ℕ → ℕ
+word3 w s i = highAt w (quadwordBehind (fetchQuadword s i) .0)
 
 -- the names of fetch i
 abbrev pub namedAt : FetchKind → List ℕ → Quadwords → ℕ → List Name
-namedAt kind w s i = named kind (fieldOf (fetchWord w s i 0) 0 5) (fetchWord w s i 0) (fetchWord w s i 1)
+namedAt kind w s i = named kind (fieldOf (word0 w s i) 0 5) (word0 w s i) (word1 w s i)
 
 -- the checks of fetch i, at the opener's place, in slot 2i
 unfoldable pub fetchChecks : FetchKind → Limits → List ℕ → Quadwords → Quadwords → ℕ → List Check
 fetchChecks kind limits w place s i =
-    check FetchNumber (Quadword place) (fetchSlot (slots i)) (badFetch kind (fieldOf (fetchWord w s i 0) 0 5) (fetchWord w s i 3))
-    ∷ check FetchRegister (Quadword place) (fetchSlot (slots i)) (badRegister kind limits (fetchWord w s i 0) (fetchWord w s i 1))
+    check FetchNumber (Quadword place) (fetchSlot (slots i)) (badFetch kind (fieldOf (word0 w s i) 0 5) (word3 w s i))
+    ∷ check FetchRegister (Quadword place) (fetchSlot (slots i)) (badRegister kind limits (word0 w s i) (word1 w s i))
     ∷ []
 
--- the clause lies in a buffer of so many words
-unfoldable pub insideBuffer : ℕ → Quadwords → Slots → Bool
-insideBuffer words s n = leb (2 * s .0 + 4 * n .0) words
+-- the clause of n fetches at quadword s lies in a buffer of so many words
+unfoldable pub insideBuffer : Words → Quadwords → Slots → Bool
+insideBuffer buffer s n = isAtMost (rangeEnd s (fetchesLength n)) (wholeQuadwords buffer)
 
 -- the checks of a clause of n fetches, fetch by fetch. Nothing is asked of a clause that does not lie in the buffer: rule 6 refuses it
 -- before
 unfoldable pub clauseChecks : FetchKind → Limits → List ℕ → Quadwords → Quadwords → Slots → List Check
 clauseChecks kind limits w place s n =
-    cond (insideBuffer (length w) s n) (below (fetchChecks kind limits w place s) (n .0)) []
+    cond (insideBuffer (words (length w)) s n) (below (fetchChecks kind limits w place s) (n .0)) []

@@ -8,7 +8,6 @@ use units::Quadwords;
 use units::Slots;
 use units::Words;
 ghost use mathlib.Core.Path.{_≡_};
-ghost use lib.ListN.{length};
 ghost use Rattle.checks.specs.Checks.{firstBroken};
 ghost use Rattle.grants.specs.Grants.{allGranted};
 ghost use Rattle.fetches.specs.Fetches.{isSemantic, destination, source, named, badFetch, faultOf, insideBuffer, clauseChecks};
@@ -20,7 +19,7 @@ pub enum FetchKind {
 }
 
 // What one fetch breaks.
-pub enum Fault {
+enum Fault {
     Clean,
     Broken(Rule),
 }
@@ -36,40 +35,41 @@ pub fn fetch_clause(
 ) -> Verdict
     ensures { λ r. ⌜ r ≡ firstBroken (clauseChecks kind limits (now (words .entry)) place start fetches) ⌝ }
 {
-    let n = fetches.0;
-    if !is_inside(words.len(), start, fetches) {
+    if !is_inside(Words(words.len()), start, fetches) {
         return Verdict::Accepted;
     }
-    let first = units::low_word(start).0;
-    let mut i = 0;
-    while i < n {
-        let at = first + 4 * i;
+    let mut i = Slots(0);
+    while units::is_slot_below(i, fetches) {
+        let at = units::low_word(units::slot_quadword(start, units::fetch_slot(i))).0;
         let fault = fetch_fault(kind, limits, words[at], words[at + 1], words[at + 3]);
         match fault {
             Fault::Broken(rule) => {
                 return Verdict::Refused {
                     rule,
                     place: Place::Quadword(place),
-                    slot: units::fetch_slot(Slots(i)),
+                    slot: units::fetch_slot(i),
                 };
             }
             Fault::Clean => {}
         }
-        i += 1;
+        i = units::slot_behind(i, Slots(1));
     }
     Verdict::Accepted
 }
 
 // Whether the clause lies in a buffer of so many words. Where it does not, rule 6 has refused it.
-fn is_inside(length: usize, start: Quadwords, fetches: Slots) -> bool
-    ensures { λ r. ⌜ r ≡ insideBuffer length start fetches ⌝ }
+fn is_inside(buffer: Words, start: Quadwords, fetches: Slots) -> bool
+    ensures { λ r. ⌜ r ≡ insideBuffer buffer start fetches ⌝ }
 {
-    let end = units::range_end(start, units::fetches_length(fetches));
-    units::is_at_most(end, units::whole_quadwords(Words(length)))
+    units::ends_by(
+        start,
+        units::fetches_length(fetches),
+        units::whole_quadwords(buffer),
+    )
 }
 
 // Rules 8 and 9 on one fetch, by its first, second and fourth word.
-pub fn fetch_fault(kind: FetchKind, limits: Limits, word0: u32, word1: u32, word3: u32) -> Fault
+fn fetch_fault(kind: FetchKind, limits: Limits, word0: u32, word1: u32, word3: u32) -> Fault
     ensures { λ r. ⌜ r ≡ faultOf kind limits word0 word1 word3 ⌝ }
 {
     let number = field(word0, 0, 5);

@@ -6,10 +6,10 @@ use mathlib.Core.Bool.{true, false}
 use mathlib.Core.List.{List, [], _∷_, _++_}
 use lib.ListN.{getD}
 use Rattle.units.specs.declared.Quadwords.{Quadwords}
-use Rattle.units.specs.Units.{quadwords}
+use Rattle.units.specs.Units.{quadwords, lowAt, highAt}
 use Rattle.checks.specs.Verdict.{verdictNumber, verdictPlace, verdictSlot}
 use Rattle.checks.specs.Checks.{firstBroken, below}
-use Rattle.control.specs.Control.{lowAt, highAt, isAluOpener, aluControl, cfControl, controlOf, controlAt}
+use Rattle.control.specs.Control.{isAluOpener, aluControl, cfControl, controlOf, controlAt}
 use Rattle.flow.specs.declared.Flow.{Flow}
 use Rattle.flow.specs.declared.Flow.the-variants.{Still, PushMark, PopMarks, Jump, LoopBreak, LoopContinue, Else, Pop, LoopStart, LoopEnd}
 use Rattle.flow.specs.Flow.{M, L, popTo, move, stackOf, stackAt}

@@ -41,8 +41,8 @@ Follows limit code p s TooDeep = limit < length (stackAt code (suc p))
 Follows limit code p s (To f) = Goes limit code p s f
 
 -- a stack that is held has as many frames as marks and loops
-pub marks-counted : (code : ℕ → Flow) (p : ℕ) (s : Frames) → Held code p s → s .depth ≡ s .marks + length (base code (s .top))
-marks-counted code p s h = omega (arith, h .size, ap length (h .shape .stack), length-marked (s .marks) (base code (s .top)))
+pub marks-counted : (code : ℕ → Flow) (p : ℕ) (s : Frames) → Held code p s → s .depth ≡ s .marks + length (base code (s .top .0))
+marks-counted code p s h = omega (arith, h .size, ap length (h .shape .stack), length-marked (s .marks) (base code (s .top .0)))
 
 or-right : (a b : Bool) → b ≡ true → (a || b) ≡ true
 or-right true b h = refl
@@ -77,11 +77,11 @@ module _ (limit : ℕ) (code : ℕ → Flow) (p : ℕ) (s : Frames) (h : Held co
     either = rw q
 
   -- what a pop of n marks finds in what is held
-  pops : (t n : ℕ) → n ≤ s .marks → popTo t n (stackAt code p) ≡ goes t (marked (s .marks - n) (base code (s .top)))
-  pops t n l = rw (h .shape .stack) (pop-enough t n (s .marks) (base code (s .top)) l)
+  pops : (t n : ℕ) → n ≤ s .marks → popTo t n (stackAt code p) ≡ goes t (marked (s .marks - n) (base code (s .top .0)))
+  pops t n l = rw (h .shape .stack) (pop-enough t n (s .marks) (base code (s .top .0)) l)
 
   short : (t n : ℕ) → s .marks < n → popTo t n (stackAt code p) ≡ lacks
-  short t n l = rw (h .shape .stack) (pop-short t n (s .marks) code (s .top) l)
+  short t n l = rw (h .shape .stack) (pop-short t n (s .marks) code (s .top .0) l)
 
   -- the step leaves the stack as it is
   kept : stackAt code (suc p) ≡ stackAt code p → lacksAt code p ≡ false → Goes limit code p s s
@@ -103,7 +103,7 @@ module _ (limit : ℕ) (code : ℕ → Flow) (p : ℕ) (s : Frames) (h : Held co
   find-pushed b z = by (ltb (s .depth) limit) (ltb (s .marks) limit) refl refl
     where
       by : (x y : Bool) → ltb (s .depth) limit ≡ x → ltb (s .marks) limit ≡ y
-          → Follows limit code p s (cond x (cond y (To (frames (s .top) (s .marks + 1) (s .depth + 1))) TooDeep) TooDeep)
+          → Follows limit code p s (cond x (cond y (To (frames (s .top .0) (s .marks + 1) (s .depth + 1))) TooDeep) TooDeep)
       by true true u v =
           record {
             has-frames = z;
@@ -143,10 +143,10 @@ module _ (limit : ℕ) (code : ℕ → Flow) (p : ℕ) (s : Frames) (h : Held co
   find-popped n t b z = by (leb n (s .marks)) (leb n (s .depth)) refl refl
     where
       by : (x y : Bool) → leb n (s .marks) ≡ x → leb n (s .depth) ≡ y
-          → Follows limit code p s (cond x (cond y (To (frames (s .top) (s .marks - n) (s .depth - n))) Lacks) Lacks)
+          → Follows limit code p s (cond x (cond y (To (frames (s .top .0) (s .marks - n) (s .depth - n))) Lacks) Lacks)
       by true true u v =
           let l : n ≤ s .marks = leb-true n (s .marks) u in
-          let k : stackAt code (suc p) ≡ marked (s .marks - n) (base code (s .top)) = b ∙ ap stackOf (pops (suc p) n l) in
+          let k : stackAt code (suc p) ≡ marked (s .marks - n) (base code (s .top .0)) = b ∙ ap stackOf (pops (suc p) n l) in
           record {
             has-frames = z ∙ rw (pops (suc p) n l, pops t n l);
             held =
@@ -154,7 +154,7 @@ module _ (limit : ℕ) (code : ℕ → Flow) (p : ℕ) (s : Frames) (h : Held co
                   shape = record { stack = k; near = omega (arith, h .shape .near) };
                   size =
                       omega
-                      (arith, marks-counted code p s h, ap length k, length-marked (s .marks - n) (base code (s .top)));
+                      (arith, marks-counted code p s h, ap length k, length-marked (s .marks - n) (base code (s .top .0)));
                 };
             no-deeper = λ d. omega arith;
           }
@@ -182,25 +182,25 @@ module _ (limit : ℕ) (code : ℕ → Flow) (p : ℕ) (s : Frames) (h : Held co
 
       by : (m : ℕ) → s .marks ≡ m → Follows limit code p s (needingTop n s)
       by zero u =
-          let f : stackAt code p ≡ base code (s .top) = h .shape .stack ∙ rw u in
+          let f : stackAt code p ≡ base code (s .top .0) = h .shape .stack ∙ rw u in
           rw (eq-eqb (s .marks) 0 u)
           (either (Else n t) q
           ∙ ap (λ (k : Stack). lacking (move (Else n t) p false k) || lacking (move (Else n t) p true k)) f
-          ∙ none (s .top))
+          ∙ none (s .top .0))
       by (suc m) u =
-          let f : stackAt code p ≡ M ∷ marked m (base code (s .top)) = h .shape .stack ∙ rw u in
+          let f : stackAt code p ≡ M ∷ marked m (base code (s .top .0)) = h .shape .stack ∙ rw u in
           rw (ne-eqb (s .marks) 0 (omega arith))
           (find-needing n (t .0)
           (behind (Else n t) q ∙ rw f)
           (either (Else n t) q ∙ rw f))
 
   -- a loop end needs a loop frame on top
-  no-loop : (t : Quadwords) → code p ≡ LoopEnd t → (s .marks ≡ 0 → ⊥) ⊎ (s .top ≡ 0) → lacksAt code p ≡ true
+  no-loop : (t : Quadwords) → code p ≡ LoopEnd t → (s .marks ≡ 0 → ⊥) ⊎ (s .top .0 ≡ 0) → lacksAt code p ≡ true
   unfolding move lacking marked base
   no-loop t q c =
       either (LoopEnd t) q
       ∙ ap (λ (k : Stack). lacking (move (LoopEnd t) p false k) || lacking (move (LoopEnd t) p true k)) (h .shape .stack)
-      ∙ by (s .marks) (s .top) c
+      ∙ by (s .marks) (s .top .0) c
     where
       by : (m a : ℕ) → (m ≡ 0 → ⊥) ⊎ (a ≡ 0)
           → (lacking (move (LoopEnd t) p false (marked m (base code a))) || lacking (move (LoopEnd t) p true (marked m (base code a)))) ≡ true
@@ -210,7 +210,7 @@ module _ (limit : ℕ) (code : ℕ → Flow) (p : ℕ) (s : Frames) (h : Held co
       by (suc m) a c = refl
 
   module _ (tops marks : List ℕ) (r : Recorded code p tops marks) where
-    pops-loop : (t : Quadwords) → code p ≡ LoopEnd t → s .marks ≡ 0 → (x : ℕ) → s .top ≡ suc x
+    pops-loop : (t : Quadwords) → code p ≡ LoopEnd t → s .marks ≡ 0 → (x : ℕ) → s .top .0 ≡ suc x
         → Goes limit code p s (frames (getD tops x 0) (getD marks x 0) (s .depth - 1))
     unfolding move lacking stackOf marked base
     pops-loop t q m x n =
@@ -229,22 +229,22 @@ module _ (limit : ℕ) (code : ℕ → Flow) (p : ℕ) (s : Frames) (h : Held co
 
     find-ended : (t : Quadwords) → code p ≡ LoopEnd t → Follows limit code p s (ended s tops marks)
     unfolding ended base
-    find-ended t q = by (eqb (s .marks) 0) (eqb (s .top) 0) (eqb (s .depth) 0) refl refl refl
+    find-ended t q = by (eqb (s .marks) 0) (eqb (s .top .0) 0) (eqb (s .depth) 0) refl refl refl
       where
-        by : (x y z : Bool) → eqb (s .marks) 0 ≡ x → eqb (s .top) 0 ≡ y → eqb (s .depth) 0 ≡ z
+        by : (x y z : Bool) → eqb (s .marks) 0 ≡ x → eqb (s .top .0) 0 ≡ y → eqb (s .depth) 0 ≡ z
             → Follows limit code p s
-            (cond x (cond y Lacks (cond z Lacks (To (frames (getD tops (s .top - 1) 0) (getD marks (s .top - 1) 0) (s .depth - 1))))) Lacks)
-        by true true z u v w = no-loop t q (inr (eqb-true (s .top) 0 v))
+            (cond x (cond y Lacks (cond z Lacks (To (frames (getD tops (s .top .0 - 1) 0) (getD marks (s .top .0 - 1) 0) (s .depth - 1))))) Lacks)
+        by true true z u v w = no-loop t q (inr (eqb-true (s .top .0) 0 v))
         by true false z u v w = by-depth z w
           where
-            n : s .top ≡ suc (s .top - 1)
-            n = omega (arith, eqb-false (s .top) 0 v)
+            n : s .top .0 ≡ suc (s .top .0 - 1)
+            n = omega (arith, eqb-false (s .top .0) 0 v)
 
             by-depth : (z : Bool) → eqb (s .depth) 0 ≡ z
-                → Follows limit code p s (cond z Lacks (To (frames (getD tops (s .top - 1) 0) (getD marks (s .top - 1) 0) (s .depth - 1))))
+                → Follows limit code p s (cond z Lacks (To (frames (getD tops (s .top .0 - 1) 0) (getD marks (s .top .0 - 1) 0) (s .depth - 1))))
             by-depth true w =
                 absurd (omega (arith, eqb-true (s .depth) 0 w, marks-counted code p s h, ap (λ (a : ℕ). length (base code a)) n))
-            by-depth false w = pops-loop t q (eqb-true (s .marks) 0 u) (s .top - 1) n
+            by-depth false w = pops-loop t q (eqb-true (s .marks) 0 u) (s .top .0 - 1) n
         by false y z u v w = no-loop t q (inl (eqb-false (s .marks) 0 u))
 
     -- ---- any pair
@@ -315,9 +315,12 @@ module _ (limit : ℕ) (code : ℕ → Flow) (p : ℕ) (s : Frames) (h : Held co
       stack-accepted e f q l k = rw (fits f q l, none-left code p s h e k)
 
 -- what the code's call of `follow` at p is told
-pub at-place : (limit : ℕ) (code : ℕ → Flow) (p : ℕ) (s : Frames) (tops marks : List ℕ) (i : Flow) (m : Moved) → i ≡ code p
-    → m ≡ followed limit i (p + 1) s tops marks → m ≡ followed limit (code p) (suc p) s tops marks
-at-place limit code p s tops marks i m e h = h ∙ (λ j. followed limit (e j) (add-one p j) s tops marks)
+pub at-place : (limit : ℕ) (code : ℕ → Flow) (p : ℕ) (s : Frames) (tops marks : List ℕ) (behind : Quadwords) (i : Flow) (m : Moved)
+    → behind .0 ≡ p + 1
+    → i ≡ code p
+    → m ≡ followed limit i (behind .0) s tops marks
+    → m ≡ followed limit (code p) (suc p) s tops marks
+at-place limit code p s tops marks behind i m b e h = h ∙ (λ j. followed limit (e j) ((b ∙ add-one p) j) s tops marks)
 
 -- ---- the first pass's rows
 

@@ -5,6 +5,8 @@ use mathlib.Core.Path.{_≡_, sym, _∙_, ap}
 use mathlib.Core.List.{List}
 use lib.ListN.{getD}
 use borrow.Author.Tests.{lt-ltb, le-ltb, le-leb, lt-leb, eq-eqb, ne-eqb}
+use Rattle.units.specs.declared.Quadwords.{Quadwords}
+use Rattle.units.specs.Units.{quadwords, quadwordBefore}
 use Rattle.flow.specs.declared.Flow.{Flow}
 use Rattle.flow.specs.declared.Frames.{Frames}
 use Rattle.flow.specs.declared.Moved.{Moved}
@@ -20,7 +22,7 @@ module _ (limit : ℕ) (s : Frames) where
   unfolding pushed
   push-many h k = rw (lt-ltb (s .depth) limit h, le-ltb (s .marks) limit k)
 
-  pub push-room : s .depth < limit → s .marks < limit → To (frames (s .top) (s .marks + 1) (s .depth + 1)) ≡ pushed limit s
+  pub push-room : s .depth < limit → s .marks < limit → To (frames (s .top .0) (s .marks + 1) (s .depth + 1)) ≡ pushed limit s
   unfolding pushed
   push-room h k = rw (lt-ltb (s .depth) limit h, lt-ltb (s .marks) limit k)
 
@@ -41,7 +43,7 @@ module _ (n : ℕ) (s : Frames) where
   unfolding popped
   pop-low h k = rw (le-leb n (s .marks) h, lt-leb n (s .depth) k)
 
-  pub pop-all : n ≤ s .marks → n ≤ s .depth → To (frames (s .top) (s .marks - n) (s .depth - n)) ≡ popped n s
+  pub pop-all : n ≤ s .marks → n ≤ s .depth → To (frames (s .top .0) (s .marks - n) (s .depth - n)) ≡ popped n s
   unfolding popped
   pop-all h k = rw (le-leb n (s .marks) h, le-leb n (s .depth) k)
 
@@ -66,20 +68,24 @@ module _ (s : Frames) (tops marks : List ℕ) where
   unfolding ended
   end-marked h = rw (ne-eqb (s .marks) 0 h)
 
-  pub end-outside : s .marks ≡ 0 → s .top ≡ 0 → Lacks ≡ ended s tops marks
+  pub end-outside : s .marks ≡ 0 → s .top .0 ≡ 0 → Lacks ≡ ended s tops marks
   unfolding ended
-  end-outside h k = rw (eq-eqb (s .marks) 0 h, eq-eqb (s .top) 0 k)
+  end-outside h k = rw (eq-eqb (s .marks) 0 h, eq-eqb (s .top .0) 0 k)
 
-  pub end-low : s .marks ≡ 0 → (s .top ≡ 0 → ⊥) → s .depth ≡ 0 → Lacks ≡ ended s tops marks
+  pub end-low : s .marks ≡ 0 → (s .top .0 ≡ 0 → ⊥) → s .depth ≡ 0 → Lacks ≡ ended s tops marks
   unfolding ended
-  end-low h k l = rw (eq-eqb (s .marks) 0 h, ne-eqb (s .top) 0 k, eq-eqb (s .depth) 0 l)
+  end-low h k l = rw (eq-eqb (s .marks) 0 h, ne-eqb (s .top .0) 0 k, eq-eqb (s .depth) 0 l)
 
-  pub end-below : (a m : ℕ) → s .marks ≡ 0 → (s .top ≡ 0 → ⊥) → (s .depth ≡ 0 → ⊥) → a ≡ getD tops (s .top - 1) 0
-      → m ≡ getD marks (s .top - 1) 0
-      → To (frames a m (s .depth - 1)) ≡ ended s tops marks
+  pub end-below : (start a : Quadwords) (m : ℕ) → s .marks ≡ 0 → (s .top .0 ≡ 0 → ⊥) → (s .depth ≡ 0 → ⊥)
+      → start ≡ quadwordBefore (s .top)
+      → a ≡ quadwords (getD tops (start .0) 0)
+      → m ≡ getD marks (start .0) 0
+      → To (frames (a .0) m (s .depth - 1)) ≡ ended s tops marks
   unfolding ended
-  end-below a m h k l e f =
-      rw (eq-eqb (s .marks) 0 h, ne-eqb (s .top) 0 k, ne-eqb (s .depth) 0 l) (λ j. To (frames (e j) (f j) (s .depth - 1)))
+  end-below start a m h k l b e f =
+      rw (eq-eqb (s .marks) 0 h, ne-eqb (s .top .0) 0 k, ne-eqb (s .depth) 0 l)
+      ((λ j. To (frames (e j .0) (f j) (s .depth - 1)))
+      ∙ (λ j. To (frames (getD tops (b j .0) 0) (getD marks (b j .0) 0) (s .depth - 1))))
 
 -- the step of what was told to stand there
 pub told : (limit behind : ℕ) (s : Frames) (tops marks : List ℕ) (i x : Flow) (r : Moved) → i ≡ x

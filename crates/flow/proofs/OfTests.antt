@@ -2,24 +2,25 @@
 -- nothing.
 use Prim.Native.Nat.{ℕ, suc, _<_, _≤_, _+_, _*_, _-_, _^_}
 use mathlib.Core.Path.{_≡_, refl, sym, _∙_, ap, subst}
-use mathlib.Core.Bool.{Bool, true, false, not, _&&_}
+use mathlib.Core.Bool.{Bool, true, false, not, _&&_, and-true, and-false}
 use mathlib.Core.List.{List, [], _∷_}
-use lib.Dec.{eqb, leb, eqb·suc-zero, eqb·suc-suc}
+use lib.Dec.{eqb, ltb, leb, eqb·suc-zero, eqb·suc-suc}
 use lib.ListN.{length, getD, List·getD-eq-default}
-use borrow.Author.Tests.{lt-ltb, le-ltb, le-leb, lt-leb, eq-eqb, ne-eqb, not-true, not-false}
+use borrow.Author.Tests.{le-leb, lt-leb, eq-eqb, ne-eqb, eqb-true, eqb-false, not-true, not-false}
 use native.Mathlib.Omega.{arith}
 use native.Mathlib.Numerals.{add-one}
 use types.Run.{OneOf, miss}
 use denote.Enum.Declared.{tagOf}
 use Rattle.units.specs.declared.Words.{Words}
-use Rattle.units.specs.Units.{quadwords, slots, highWord}
+use Rattle.units.specs.declared.Quadwords.{Quadwords}
+use Rattle.units.specs.Units.{quadwords, slots, lowWord, highWord, lowAt, highAt, wordsIn64, quadwordBefore}
 use Rattle.checks.specs.declared.Rule.the-variants.{WrongTarget, StacksDiffer}
 use Rattle.checks.specs.declared.Place.the-variants.{Quadword}
 use Rattle.checks.specs.declared.Verdict.the-variants.{Accepted, Refused}
 use Rattle.checks.specs.Checks.{firstBroken, below}
 use Rattle.checks.proofs.OfChecks.{below-next, below-found}
 use Rattle.control.specs.declared.Control.{Control}
-use Rattle.control.specs.Control.{lowAt, highAt, isAluOpener, cfControl, controlOf, controlAt}
+use Rattle.control.specs.Control.{isAluOpener, cfControl, controlOf, controlAt}
 use Rattle.flow.specs.declared.Flow.{Flow}
 use Rattle.flow.specs.declared.Flow.the-variants.{Still, PushMark, PopMarks, Jump, LoopBreak, LoopContinue, Else, Pop, LoopStart, LoopEnd}
 use Rattle.flow.specs.Pairs.{flowOf, flowAt}
@@ -46,10 +47,10 @@ module _ (tops marks : List ℕ) (p n t : ℕ) (m : ℕ) (e : m ≡ getD marks p
   unfolding rowCarries
   carries-few h = rw (lt-leb n (getD marks p 0) (omega arith))
 
-  pub carries-all : (a : ℕ) (b : Bool) → n ≤ m → a ≡ getD tops p 0 → b ≡ sameRow tops marks t a (m - n)
+  pub carries-all : (a : Quadwords) (b : Bool) → n ≤ m → a ≡ quadwords (getD tops p 0) → b ≡ sameRow tops marks t (a .0) (m - n)
       → b ≡ rowCarries tops marks p n t
   unfolding rowCarries
-  carries-all a b h f g = rw (le-leb n (getD marks p 0) (omega arith)) (g ∙ (λ j. sameRow tops marks t (f j) (e j - n)))
+  carries-all a b h f g = rw (le-leb n (getD marks p 0) (omega arith)) (g ∙ (λ j. sameRow tops marks t (f j .0) (e j - n)))
 
   pub else-none : m ≡ 0 → false ≡ rowElse tops marks p n t
   unfolding rowElse
@@ -64,32 +65,38 @@ module _ (tops marks : List ℕ) (p n t : ℕ) (m : ℕ) (e : m ≡ getD marks p
 pub next-none : (p t : ℕ) → t ≡ 0 → false ≡ eqb (suc p) t
 next-none p t h = rw h (sym (eqb·suc-zero p))
 
-pub next-some : (p t : ℕ) → (t ≡ 0 → ⊥) → eqb p (t - 1) ≡ eqb (suc p) t
-next-some p t h = sym (eqb·suc-suc p (t - 1)) ∙ ap (eqb (suc p)) (omega arith)
+pub next-some : (p t : ℕ) (b : Quadwords) → (t ≡ 0 → ⊥) → b ≡ quadwordBefore (quadwords t) → eqb p (b .0) ≡ eqb (suc p) t
+next-some p t b h e =
+    ap (λ (x : Quadwords). eqb p (x .0)) e ∙ sym (eqb·suc-suc p (t - 1)) ∙ ap (eqb (suc p)) (omega arith)
 
 module _ (code : ℕ → Flow) (tops marks : List ℕ) (q k : ℕ) (b : Bool) (e : b ≡ isLoopEnd (code k)) where
   pub ends-none : not b ≡ true → false ≡ rowEnds code tops marks q k
   unfolding rowEnds
   ends-none h = rw (sym e ∙ not-true b h)
 
-  module _ (a : ℕ) (d : Bool) (f : a ≡ getD tops k 0) (g : d ≡ eqb (suc q) a) (h : not b ≡ false) where
+  module _ (a : Quadwords) (d : Bool) (f : a ≡ quadwords (getD tops k 0)) (g : d ≡ eqb (suc q) (a .0)) (h : not b ≡ false) where
+    loop-is : (t : Bool) → d ≡ t → eqb (suc q) (getD tops k 0) ≡ t
+    loop-is t i = ap (λ (x : Quadwords). eqb (suc q) (x .0)) (sym f) ∙ sym g ∙ i
+
     pub ends-other : not d ≡ true → false ≡ rowEnds code tops marks q k
     unfolding rowEnds sameRow
-    ends-other i = rw (sym e ∙ not-false b h, ap (eqb (suc q)) (sym f) ∙ sym g ∙ not-true d i)
+    ends-other i = rw (sym e ∙ not-false b h, loop-is false (not-true d i))
 
     pub ends-own : (m : ℕ) → not d ≡ false → m ≡ getD marks k 0 → eqb 0 m ≡ rowEnds code tops marks q k
     unfolding rowEnds sameRow
-    ends-own m i j = rw (sym e ∙ not-false b h, ap (eqb (suc q)) (sym f) ∙ sym g ∙ not-false d i) (ap (eqb 0) j)
+    ends-own m i j = rw (sym e ∙ not-false b h, loop-is true (not-false d i)) (ap (eqb 0) j)
 
-module _ (code : ℕ → Flow) (tops marks : List ℕ) (p t : ℕ) (b : Bool) (e : b ≡ rowCarries tops marks p 0 t) where
-  pub starts-off : not b ≡ true → false ≡ rowStarts code tops marks p t
-  unfolding rowStarts
-  starts-off h = rw (sym e ∙ not-true b h)
+module _ (code : ℕ → Flow) (tops marks : List ℕ) (p t : ℕ) (k : ℕ) (r : Bool) (f : k ≡ t - 1) (g : r ≡ rowEnds code tops marks p k) where
+  paired : (b : Bool) → r ≡ b → rowEnds code tops marks p (t - 1) ≡ b
+  paired b h = ap (rowEnds code tops marks p) (sym f) ∙ sym g ∙ h
 
-  pub starts-on : (k : ℕ) (r : Bool) → not b ≡ false → k ≡ t - 1 → r ≡ rowEnds code tops marks p k
-      → r ≡ rowStarts code tops marks p t
+  pub starts-off : not r ≡ true → false ≡ rowStarts code tops marks p t
   unfolding rowStarts
-  starts-on k r h f g = rw (sym e ∙ not-false b h) (g ∙ ap (rowEnds code tops marks p) f)
+  starts-off h = rw (paired false (not-true r h)) (sym (and-false (rowCarries tops marks p 0 t)))
+
+  pub starts-on : (b : Bool) → not r ≡ false → b ≡ rowCarries tops marks p 0 t → b ≡ rowStarts code tops marks p t
+  unfolding rowStarts
+  starts-on b h e = rw (paired true (not-false r h)) (e ∙ sym (and-true (rowCarries tops marks p 0 t)))
 
 module _ (tops marks : List ℕ) (p t : ℕ) (m : ℕ) (e : m ≡ getD marks p 0) where
   pub back-marked : (m ≡ 0 → ⊥) → false ≡ rowBack tops marks p t
@@ -101,18 +108,31 @@ module _ (tops marks : List ℕ) (p t : ℕ) (m : ℕ) (e : m ≡ getD marks p 0
     unfolding rowBack
     back-outside k = rw (eq-eqb (getD marks p 0) 0 (sym e ∙ h), eq-eqb (getD tops p 0) 0 (sym f ∙ k))
 
-    pub back-off : (a ≡ 0 → ⊥) → (t ≡ a → ⊥) → false ≡ rowBack tops marks p t
-    unfolding rowBack
-    back-off k l =
-        rw
-        (eq-eqb (getD marks p 0) 0 (sym e ∙ h), ne-eqb (getD tops p 0) 0 (λ q. k (f ∙ q)), ne-eqb t (getD tops p 0) (λ q. l (q ∙ sym f)))
+    -- the target is just behind the loop's start q, or not
+    module _ (k : a ≡ 0 → ⊥) (q : ℕ) (z : q ≡ getD tops p 0 - 1) (d : Bool) (g : d ≡ eqb (suc q) t) where
+      started : suc q ≡ getD tops p 0
+      started = omega arith
 
-    pub back-on : (b : Bool) → (a ≡ 0 → ⊥) → t ≡ a → b ≡ sameRow tops marks t t 0 → b ≡ rowBack tops marks p t
-    unfolding rowBack
-    back-on b k l g =
-        rw
-        (eq-eqb (getD marks p 0) 0 (sym e ∙ h), ne-eqb (getD tops p 0) 0 (λ q. k (f ∙ q)), eq-eqb t (getD tops p 0) (l ∙ f))
-        g
+      pub back-off : not d ≡ true → false ≡ rowBack tops marks p t
+      unfolding rowBack
+      back-off l =
+          let n = eqb-false (suc q) t (sym g ∙ not-true d l) in
+          rw (
+            eq-eqb (getD marks p 0) 0 (sym e ∙ h),
+            ne-eqb (getD tops p 0) 0 (λ o. k (f ∙ o)),
+            ne-eqb t (getD tops p 0) (λ o. n (started ∙ sym o)),
+          )
+
+      pub back-on : (b : Bool) → not d ≡ false → b ≡ sameRow tops marks t t 0 → b ≡ rowBack tops marks p t
+      unfolding rowBack
+      back-on b l s =
+          let n = eqb-true (suc q) t (sym g ∙ not-false d l) in
+          rw (
+            eq-eqb (getD marks p 0) 0 (sym e ∙ h),
+            ne-eqb (getD tops p 0) 0 (λ o. k (f ∙ o)),
+            eq-eqb t (getD tops p 0) (sym n ∙ started),
+          )
+          s
 
 -- rule 19 at p, by what was told to stand there
 pub told-differs : (code : ℕ → Flow) (tops marks : List ℕ) (p : ℕ) (i x : Flow) (b : Bool) → i ≡ x
@@ -121,23 +141,25 @@ told-differs code tops marks p i x b e h = h ∙ ap (rowDiffers code tops marks 
 
 -- ---- targets
 
+-- a test that refuses, then one that answers
+module _ (e p t : ℕ) (b : Bool) where
+  pub not-forward : b ≡ ltb p t → not b ≡ true → false ≡ isForward e p t
+  unfolding isForward
+  not-forward f h = rw (sym f ∙ not-true b h)
+
+  pub forward-to : (r : Bool) → b ≡ ltb p t → not b ≡ false → r ≡ leb t e → r ≡ isForward e p t
+  unfolding isForward
+  forward-to r f h g = rw (sym f ∙ not-false b h) g
+
+  pub not-backward : b ≡ leb t p → not b ≡ true → false ≡ isBackward e p t
+  unfolding isBackward
+  not-backward f h = rw (sym f ∙ not-true b h)
+
+  pub backward-to : (r : Bool) → b ≡ leb t p → not b ≡ false → r ≡ leb t e → r ≡ isBackward e p t
+  unfolding isBackward
+  backward-to r f h g = rw (sym f ∙ not-false b h) g
+
 module _ (e p t : ℕ) where
-  pub not-forward : t ≤ p → false ≡ isForward e p t
-  unfolding isForward
-  not-forward h = rw (le-ltb p t h)
-
-  pub forward-to : p < t → leb t e ≡ isForward e p t
-  unfolding isForward
-  forward-to h = rw (lt-ltb p t h)
-
-  pub not-backward : p < t → false ≡ isBackward e p t
-  unfolding isBackward
-  not-backward h = rw (lt-leb t p h)
-
-  pub backward-to : t ≤ p → leb t e ≡ isBackward e p t
-  unfolding isBackward
-  backward-to h = rw (le-leb t p h)
-
   pub hits-not : (b l : Bool) → b ≡ isForward e p t → not b ≡ true → false ≡ (isForward e p t && l)
   hits-not b l f h = rw (sym f ∙ not-true b h)
 
@@ -179,61 +201,68 @@ pair-at w p low high i r e f g h = h ∙ (λ j. flowOf (g j) low high) ∙ (λ j
 pub told-pair : (low high : ℕ) (i x : Control) (r : Flow) → i ≡ x → r ≡ flowOf x low high → r ≡ flowOf i low high
 told-pair low high i x r e h = h ∙ ap (λ (j : Control). flowOf j low high) (sym e)
 
-module _ (w : List ℕ) (p : ℕ) (at : Words) (e : at ≡ highWord (quadwords p)) (s : length w < 2 ^ 64) where
+module _ (w : List ℕ) (p : Quadwords) (at : Words) (e : at ≡ wordsIn64 (highWord p)) (s : length w < 2 ^ 64) where
   -- where the pair ends behind the words
-  pub pair-outside : length w ≤ at .0 → Still ≡ flowAt w p
+  pub pair-outside : length w ≤ at .0 → Still ≡ flowAt w (p .0)
   unfolding flowAt flowOf controlAt controlOf highAt isAluOpener cfControl
   pair-outside l =
-      let z : length w ≤ 2 * p + 1 = omega (arith, ap (λ (x : Words). x .0) e) in
+      let z : length w ≤ 2 * p .0 + 1 = omega (arith, ap (λ (x : Words). x .0) e) in
       rw (List·getD-eq-default w 0 z)
 
-  pub at-high : at .0 < length w → at .0 ≡ 2 * p + 1
-  at-high l = omega (arith, ap (λ (x : Words). x .0) e)
+  module _ (l : at .0 < length w) (below : Words) (b : below ≡ wordsIn64 (lowWord p)) where
+    at-high : at .0 ≡ 2 * p .0 + 1
+    at-high = omega (arith, ap (λ (x : Words). x .0) e)
 
-  pub pair-inside : (i : Control) (r : Flow) → at .0 < length w → i ≡ controlOf (getD w (at .0) 0)
-      → r ≡ flowOf i (getD w (at .0 - 1) 0) (getD w (at .0) 0)
-      → r ≡ flowAt w p
-  unfolding highAt lowAt
-  pair-inside i r l f g =
-      let a : at .0 ≡ 2 * p + 1 = at-high l in
-      let b : at .0 - 1 ≡ 2 * p = omega arith in
-      pair-at w p (getD w (at .0 - 1) 0) (getD w (at .0) 0) i r (ap (λ (n : ℕ). getD w n 0) b) (ap (λ (n : ℕ). getD w n 0) a) f g
+    at-low : below .0 ≡ 2 * p .0
+    at-low = omega (arith, at-high, ap (λ (x : Words). x .0) b)
 
--- ---- the second pass, by what stands at p and what the two tests answered there
+    pub low-inside : below .0 < length w
+    low-inside = omega (arith, at-high, at-low)
 
-module _ (code : ℕ → Flow) (e : ℕ) (tops marks : List ℕ) where
-  pub pass-none : (n : ℕ) → n ≡ 0 → Accepted ≡ firstBroken (below (rowChecks code e tops marks) n)
-  unfolding firstBroken below
-  pass-none n h = rw h
+    pub pair-inside : (i : Control) (r : Flow) → i ≡ controlOf (getD w (at .0) 0)
+        → r ≡ flowOf i (getD w (below .0) 0) (getD w (at .0) 0)
+        → r ≡ flowAt w (p .0)
+    unfolding highAt lowAt
+    pair-inside i r f g =
+        pair-at w (p .0) (getD w (below .0) 0) (getD w (at .0) 0) i r (ap (λ (n : ℕ). getD w n 0) at-low)
+        (ap (λ (n : ℕ). getD w n 0) at-high) f g
 
+-- ---- the second pass of a section of so many pairs, by what stands at p and what the two tests answered there
+
+module _ (code : ℕ → Flow) (pairs end : Quadwords) (last : end ≡ quadwordBefore pairs) (tops marks : List ℕ) where
   -- the places below p are clean
-  module _ (p : ℕ) (z : firstBroken (below (rowChecks code e tops marks) p) ≡ Accepted) where
-    pub pass-all : (n : ℕ) → p ≡ n → Accepted ≡ firstBroken (below (rowChecks code e tops marks) n)
-    pass-all n h = sym (subst (λ (k : ℕ). firstBroken (below (rowChecks code e tops marks) k) ≡ Accepted) h z)
+  module _ (p : ℕ) (z : firstBroken (below (rowChecks code (pairs .0 - 1) tops marks) p) ≡ Accepted) where
+    pub pass-all : p ≡ pairs .0 → Accepted ≡ firstBroken (below (rowChecks code (pairs .0 - 1) tops marks) (pairs .0))
+    pass-all h = sym (subst (λ (k : ℕ). firstBroken (below (rowChecks code (pairs .0 - 1) tops marks) k) ≡ Accepted) h z)
 
-    module _ (i : Flow) (q : i ≡ code p) (a : Bool) (f : a ≡ wrongTarget e code p i) where
-      target-is : (t : Bool) → a ≡ t → badTarget e code p ≡ t
+    module _ (i : Flow) (q : i ≡ code p) (a : Bool) (f : a ≡ wrongTarget (end .0) code p i) (l : p < pairs .0) where
+      target-is : (t : Bool) → a ≡ t → badTarget (pairs .0 - 1) code p ≡ t
       unfolding badTarget
-      target-is t h = ap (wrongTarget e code p) (sym q) ∙ sym f ∙ h
+      target-is t h =
+          ap (wrongTarget (pairs .0 - 1) code p) (sym q)
+          ∙ ap (λ (e : Quadwords). wrongTarget (e .0) code p i) (sym last)
+          ∙ sym f
+          ∙ h
 
-      pub pass-target : (n : ℕ) → p < n → a ≡ true
-          → Refused WrongTarget (Quadword (quadwords p)) (slots 0) ≡ firstBroken (below (rowChecks code e tops marks) n)
+      pub pass-target : a ≡ true
+          → Refused WrongTarget (Quadword (quadwords p)) (slots 0) ≡ firstBroken (below (rowChecks code (pairs .0 - 1) tops marks) (pairs .0))
       unfolding rowChecks firstBroken
-      pass-target n l h = sym (below-found (rowChecks code e tops marks) n p l z (rw (target-is true h)))
+      pass-target h = sym (below-found (rowChecks code (pairs .0 - 1) tops marks) (pairs .0) p l z (rw (target-is true h)))
 
       module _ (b : Bool) (h : a ≡ false) (g : b ≡ rowDiffers code tops marks p i) where
         stack-is : (t : Bool) → b ≡ t → rowStack code tops marks p ≡ t
         unfolding rowStack
         stack-is t k = ap (rowDiffers code tops marks p) (sym q) ∙ sym g ∙ k
 
-        pub pass-stack : (n : ℕ) → p < n → b ≡ true
-            → Refused StacksDiffer (Quadword (quadwords p)) (slots 0) ≡ firstBroken (below (rowChecks code e tops marks) n)
+        pub pass-stack : b ≡ true
+            → Refused StacksDiffer (Quadword (quadwords p)) (slots 0) ≡ firstBroken (below (rowChecks code (pairs .0 - 1) tops marks) (pairs .0))
         unfolding rowChecks firstBroken
-        pass-stack n l k =
-            sym (below-found (rowChecks code e tops marks) n p l z (rw (target-is false h, stack-is true k)))
+        pass-stack k =
+            sym
+            (below-found (rowChecks code (pairs .0 - 1) tops marks) (pairs .0) p l z (rw (target-is false h, stack-is true k)))
 
-        pub pass-next : b ≡ false → firstBroken (below (rowChecks code e tops marks) (p + 1)) ≡ Accepted
+        pub pass-next : (n : ℕ) → n ≡ p + 1 → b ≡ false → firstBroken (below (rowChecks code (pairs .0 - 1) tops marks) n) ≡ Accepted
         unfolding rowChecks firstBroken
-        pass-next k =
-            rw (add-one p)
-            (below-next (rowChecks code e tops marks) p z (rw (target-is false h, stack-is false k)))
+        pass-next n m k =
+            rw (m ∙ add-one p)
+            (below-next (rowChecks code (pairs .0 - 1) tops marks) p z (rw (target-is false h, stack-is false k)))

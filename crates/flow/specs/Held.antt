@@ -25,7 +25,7 @@ pub record Shape (code : ℕ → Flow) (p top marks : ℕ) : Type 0 where
 
 -- so is a struct, with its depth
 pub record Held (code : ℕ → Flow) (p : ℕ) (s : Frames) : Type 0 where
-  pub shape : Shape code p (s .top) (s .marks)
+  pub shape : Shape code p (s .top .0) (s .marks)
   pub size : s .depth ≡ length (stackAt code p)
 
 -- the rows of all places below n hold the stacks there

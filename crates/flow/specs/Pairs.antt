@@ -1,11 +1,11 @@
 -- What a control-flow pair does, from its words: document 01, "Control-flow words" and the instructions of "The walk".
 use Prim.Native.Nat.{ℕ}
 use mathlib.Core.List.{List}
-use Rattle.units.specs.Units.{quadwords}
+use Rattle.units.specs.Units.{quadwords, lowAt, highAt}
 use Rattle.bits.specs.Fields.{fieldOf}
 use Rattle.control.specs.declared.Control.{Control}
 use Rattle.control.specs.declared.Control.the-variants as control
-use Rattle.control.specs.Control.{lowAt, highAt, controlAt}
+use Rattle.control.specs.Control.{controlAt}
 use Rattle.flow.specs.declared.Flow.{Flow}
 use Rattle.flow.specs.declared.Flow.the-variants.{Still, PushMark, PopMarks, Jump, LoopBreak, LoopContinue, Else, Pop, LoopStart, LoopEnd}
 
@@ -31,6 +31,6 @@ flowOf control.PushBefore low high = PushMark
 flowOf control.PopAfter low high = PopMarks 1
 flowOf control.Pop2After low high = PopMarks 2
 
--- what stands at a place of the words
+-- what stands at a place, a quadword, of the words
 unfoldable pub flowAt : List ℕ → ℕ → Flow
 flowAt w p = flowOf (controlAt w p) (lowAt w p) (highAt w p)

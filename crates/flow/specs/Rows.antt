@@ -1,7 +1,8 @@
 -- The first pass's stacks as the code keeps them: for each place two numbers, the place behind the innermost loop's start (0
 -- outside of loops) and how many frames M lie above that loop's frame. What lies below L(q) is the stack at q, so row q says
 -- the rest. Here is what the public functions compute on such rows, whatever the rows hold; proofs/OfFollow.antt and
--- proofs/OfSecond.antt say that they are rules 16 to 19 where the rows hold the first pass's stacks (specs/Held.antt).
+-- proofs/OfSecond.antt say that they are rules 16 to 19 where the rows hold the first pass's stacks (specs/Held.antt). Places are
+-- quadwords.
 use Prim.Native.Nat.{ℕ, suc, _+_, _-_}
 use mathlib.Core.Bool.{Bool, false, cond, not, _&&_}
 use mathlib.Core.List.{List, [], _∷_}
@@ -21,13 +22,13 @@ use Rattle.flow.specs.Rules.{isLoopEnd, badTarget}
 -- ---- the first pass: the step on "no", and whether either answer lacks a frame
 
 abbrev pub frames : ℕ → ℕ → ℕ → Frames
-frames top marks depth = record { top = top; marks = marks; depth = depth }
+frames top marks depth = record { top = quadwords top; marks = marks; depth = depth }
 
 -- one M more
 unfoldable pub pushed : ℕ → Frames → Moved
 pushed limit s =
     cond (ltb (s .depth) limit)
-    (cond (ltb (s .marks) limit) (To (frames (s .top) (s .marks + 1) (s .depth + 1))) TooDeep)
+    (cond (ltb (s .marks) limit) (To (frames (s .top .0) (s .marks + 1) (s .depth + 1))) TooDeep)
     TooDeep
 
 -- a loop's frame more, of the loop whose start lies before `behind`
@@ -38,7 +39,7 @@ entered limit behind s = cond (ltb (s .depth) limit) (To (frames behind 0 (s .de
 unfoldable pub popped : ℕ → Frames → Moved
 popped n s =
     cond (leb n (s .marks))
-    (cond (leb n (s .depth)) (To (frames (s .top) (s .marks - n) (s .depth - n))) Lacks)
+    (cond (leb n (s .depth)) (To (frames (s .top .0) (s .marks - n) (s .depth - n))) Lacks)
     Lacks
 
 -- nothing moves, but n frames M have to be there
@@ -53,9 +54,9 @@ needingTop n s = cond (eqb (s .marks) 0) Lacks (needing n s)
 unfoldable pub ended : Frames → List ℕ → List ℕ → Moved
 ended s tops marks =
     cond (eqb (s .marks) 0)
-    (cond (eqb (s .top) 0) Lacks
+    (cond (eqb (s .top .0) 0) Lacks
     (cond (eqb (s .depth) 0) Lacks
-    (To (frames (getD tops (s .top - 1) 0) (getD marks (s .top - 1) 0) (s .depth - 1)))))
+    (To (frames (getD tops (s .top .0 - 1) 0) (getD marks (s .top .0 - 1) 0) (s .depth - 1)))))
     Lacks
 
 -- the card's stack, what stands at a place, the place behind it, the stack there, the rows of the places before

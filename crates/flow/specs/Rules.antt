@@ -1,5 +1,5 @@
 -- Rules 16 to 19 and their order: document 01, "The walk" and "Numbers and what they mean". Each is asked of a place p of the
--- section, whose last place is e, and answers whether it is broken there.
+-- section, whose last place is e, and answers whether it is broken there. Places are quadwords.
 use Prim.Native.Nat.{ℕ, suc, _-_}
 use mathlib.Core.Bool.{Bool, true, false, not, _&&_, _||_}
 use mathlib.Core.List.{List, [], _∷_}

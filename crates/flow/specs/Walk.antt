@@ -1,5 +1,5 @@
 -- The walk along a list of answers, document 01's last paragraph of "The walk", and what demand 3 says of it as far as control
--- flow goes.
+-- flow goes. Places are quadwords.
 use Prim.Native.Nat.{ℕ, _≤_}
 use mathlib.Core.Path.{_≡_}
 use mathlib.Core.Bool.{Bool, true, false, cond}

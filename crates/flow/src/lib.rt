@@ -41,7 +41,7 @@ pub enum Flow {
 // A stack: `marks` frames M over the frame of the loop that starts before `top` (over nothing where `top` is 0), `depth` frames
 // in all.
 pub struct Frames {
-    pub top: usize,
+    pub top: Quadwords,
     pub marks: usize,
     pub depth: usize,
 }
@@ -85,13 +85,13 @@ pub fn flow_of(control: Control, low: u32, high: u32) -> Flow
 // before this one, and the rows are those of the places before.
 pub fn follow(
     flow: Flow,
-    behind: usize,
+    behind: Quadwords,
     limit: usize,
     s: Frames,
     tops: &[usize],
     marks: &[usize],
 ) -> Moved
-    ensures { λ r. ⌜ r ≡ followed limit flow behind s (now (tops .entry)) (now (marks .entry)) ⌝ }
+    ensures { λ r. ⌜ r ≡ followed limit flow (behind .0) s (now (tops .entry)) (now (marks .entry)) ⌝ }
 {
     match flow {
         Flow::Still => Moved::To(s),
@@ -109,31 +109,28 @@ pub fn follow(
 
 // The second pass over a section of so many pairs, whose rows the first pass has filled: the first broken check of rules 18 and
 // 19.
-pub fn second_pass(words: &[u32], pairs: usize, tops: &[usize], marks: &[usize]) -> Verdict
-    ensures { λ r. ⌜ r ≡ firstBroken (below (rowChecks (flowAt (now (words .entry))) (pairs - 1) (now (tops .entry)) (now (marks .entry))) pairs) ⌝ }
+pub fn second_pass(words: &[u32], pairs: Quadwords, tops: &[usize], marks: &[usize]) -> Verdict
+    ensures { λ r. ⌜ r ≡ firstBroken (below (rowChecks (flowAt (now (words .entry))) (pairs .0 - 1) (now (tops .entry)) (now (marks .entry))) (pairs .0)) ⌝ }
 {
-    if pairs == 0 {
-        return Verdict::Accepted;
-    }
-    let end = pairs - 1;
-    let mut p = 0;
-    while p < pairs {
+    let end = units::quadword_before(pairs);
+    let mut p = Quadwords(0);
+    while units::is_below(p, pairs) {
         let flow = targets::flow_at(words, p);
         if targets::is_wrong(words, flow, end, p) {
             return Verdict::Refused {
                 rule: Rule::WrongTarget,
-                place: Place::Quadword(Quadwords(p)),
+                place: Place::Quadword(p),
                 slot: Slots(0),
             };
         }
         if stacks::differ(words, flow, p, tops, marks) {
             return Verdict::Refused {
                 rule: Rule::StacksDiffer,
-                place: Place::Quadword(Quadwords(p)),
+                place: Place::Quadword(p),
                 slot: Slots(0),
             };
         }
-        p += 1;
+        p = units::quadword_behind(p);
     }
     Verdict::Accepted
 }

@@ -2,34 +2,38 @@
 use crate::Flow;
 use crate::rows::is_carried;
 use crate::rows::is_row;
+use crate::rows::loop_at;
 use crate::rows::row_at;
+use crate::rows::start_at;
 use crate::targets::is_loop_end_at;
+use units::Quadwords;
 ghost use mathlib.Core.Path.{_≡_};
-ghost use Prim.Native.Nat.{_-_, suc};
+ghost use Prim.Native.Nat.{suc};
 ghost use lib.Dec.{eqb};
+ghost use lib.ListN.{getD};
+ghost use Rattle.units.specs.Units.{quadwords, quadwordBefore};
 ghost use Rattle.flow.specs.Rows.{rowElse, rowEnds, rowStarts, rowBack, rowDiffers};
 ghost use Rattle.flow.specs.Pairs.{flowAt};
 
-// No target that rule 18 lets pass is 0.
-fn place_before(p: usize) -> usize
-    ensures { λ r. ⌜ r ≡ p - 1 ⌝ }
-{
-    if p == 0 { 0 } else { p - 1 }
-}
-
 // Whether `place` is the next one behind p.
-fn is_next(p: usize, place: usize) -> bool
-    ensures { λ r. ⌜ r ≡ eqb (suc p) place ⌝ }
+fn is_next(p: Quadwords, place: Quadwords) -> bool
+    ensures { λ r. ⌜ r ≡ eqb (suc (p .0)) (place .0) ⌝ }
 {
-    if place == 0 {
+    if place.0 == 0 {
         return false;
     }
-    p == place - 1
+    p.0 == units::quadword_before(place).0
 }
 
 // ELSE needs M on top.
-fn else_carried(tops: &[usize], marks: &[usize], p: usize, pops: usize, target: usize) -> bool
-    ensures { λ r. ⌜ r ≡ rowElse (now (tops .entry)) (now (marks .entry)) p pops target ⌝ }
+fn else_carried(
+    tops: &[usize],
+    marks: &[usize],
+    p: Quadwords,
+    pops: usize,
+    target: Quadwords,
+) -> bool
+    ensures { λ r. ⌜ r ≡ rowElse (now (tops .entry)) (now (marks .entry)) (p .0) pops (target .0) ⌝ }
 {
     if row_at(marks, p) == 0 {
         return false;
@@ -38,59 +42,80 @@ fn else_carried(tops: &[usize], marks: &[usize], p: usize, pops: usize, target: 
 }
 
 // Whether a LOOP_END stands at `place`, with the frame of the loop that starts at p on top.
-fn ends_loop(words: &[u32], tops: &[usize], marks: &[usize], p: usize, place: usize) -> bool
-    ensures { λ r. ⌜ r ≡ rowEnds (flowAt (now (words .entry))) (now (tops .entry)) (now (marks .entry)) p place ⌝ }
+fn ends_loop(words: &[u32], tops: &[usize], marks: &[usize], p: Quadwords, place: Quadwords) -> bool
+    ensures { λ r. ⌜ r ≡ rowEnds (flowAt (now (words .entry))) (now (tops .entry)) (now (marks .entry)) (p .0) (place .0) ⌝ }
 {
     if !is_loop_end_at(words, place) {
         return false;
     }
-    if !is_next(p, row_at(tops, place)) {
+    if !is_next(p, loop_at(tops, place)) {
         return false;
     }
     0 == row_at(marks, place)
 }
 
-// A LOOP_START at p goes to just behind its LOOP_END.
-fn starts_loop(words: &[u32], tops: &[usize], marks: &[usize], p: usize, target: usize) -> bool
-    ensures { λ r. ⌜ r ≡ rowStarts (flowAt (now (words .entry))) (now (tops .entry)) (now (marks .entry)) p target ⌝ }
+// A LOOP_START at p goes to just behind its LOOP_END. No target that rule 18 lets pass is 0.
+fn starts_loop(
+    words: &[u32],
+    tops: &[usize],
+    marks: &[usize],
+    p: Quadwords,
+    target: Quadwords,
+) -> bool
+    ensures { λ r. ⌜ r ≡ rowStarts (flowAt (now (words .entry))) (now (tops .entry)) (now (marks .entry)) (p .0) (target .0) ⌝ }
 {
-    if !is_carried(tops, marks, p, 0, target) {
+    let carried = is_carried(tops, marks, p, 0, target);
+    let paired = ends_loop(words, tops, marks, p, units::quadword_before(target));
+    if !paired {
         return false;
     }
-    ends_loop(words, tops, marks, p, place_before(target))
+    carried
 }
 
 // A LOOP_END at p goes to just behind its LOOP_START, whose frame is on top here and there.
-fn goes_back(tops: &[usize], marks: &[usize], p: usize, target: usize) -> bool
-    ensures { λ r. ⌜ r ≡ rowBack (now (tops .entry)) (now (marks .entry)) p target ⌝ }
+fn goes_back(
+    tops: &[usize],
+    marks: &[usize],
+    p: Quadwords,
+    start: Quadwords,
+    target: Quadwords,
+) -> bool
+    requires { ⌜ start ≡ quadwordBefore (quadwords (getD (now tops) (p .0) 0)) ⌝ }
+    ensures { λ r. ⌜ r ≡ rowBack (now (tops .entry)) (now (marks .entry)) (p .0) (target .0) ⌝ }
 {
     if row_at(marks, p) != 0 {
         return false;
     }
-    let top = row_at(tops, p);
-    if top == 0 {
+    if row_at(tops, p) == 0 {
         return false;
     }
-    if target != top {
+    if !is_next(start, target) {
         return false;
     }
     is_row(tops, marks, target, target, 0)
 }
 
 // Rule 19 at p, where `flow` stands.
-pub fn differ(words: &[u32], flow: Flow, p: usize, tops: &[usize], marks: &[usize]) -> bool
-    ensures { λ r. ⌜ r ≡ rowDiffers (flowAt (now (words .entry))) (now (tops .entry)) (now (marks .entry)) p flow ⌝ }
+pub(crate) fn differ(
+    words: &[u32],
+    flow: Flow,
+    p: Quadwords,
+    tops: &[usize],
+    marks: &[usize],
+) -> bool
+    ensures { λ r. ⌜ r ≡ rowDiffers (flowAt (now (words .entry))) (now (tops .entry)) (now (marks .entry)) (p .0) flow ⌝ }
 {
+    let start = start_at(tops, p);
     match flow {
         Flow::Still => false,
         Flow::PushMark => false,
         Flow::PopMarks(_) => false,
-        Flow::Jump { pops, target } => !is_carried(tops, marks, p, pops, target.0),
-        Flow::LoopBreak { pops, target } => !is_carried(tops, marks, p, pops, target.0),
-        Flow::LoopContinue { pops, target } => !is_carried(tops, marks, p, pops, target.0),
-        Flow::Else { pops, target } => !else_carried(tops, marks, p, pops, target.0),
-        Flow::Pop { pops, target } => !is_carried(tops, marks, p, pops, target.0),
-        Flow::LoopStart(target) => !starts_loop(words, tops, marks, p, target.0),
-        Flow::LoopEnd(target) => !goes_back(tops, marks, p, target.0),
+        Flow::Jump { pops, target } => !is_carried(tops, marks, p, pops, target),
+        Flow::LoopBreak { pops, target } => !is_carried(tops, marks, p, pops, target),
+        Flow::LoopContinue { pops, target } => !is_carried(tops, marks, p, pops, target),
+        Flow::Else { pops, target } => !else_carried(tops, marks, p, pops, target),
+        Flow::Pop { pops, target } => !is_carried(tops, marks, p, pops, target),
+        Flow::LoopStart(target) => !starts_loop(words, tops, marks, p, target),
+        Flow::LoopEnd(target) => !goes_back(tops, marks, p, start, target),
     }
 }

@@ -2,12 +2,14 @@
 // not say a stack, which the first pass never lets happen, a step that would is refused.
 use crate::Frames;
 use crate::Moved;
+use crate::rows::loop_at;
 use crate::rows::row_at;
+use units::Quadwords;
 ghost use mathlib.Core.Path.{_≡_};
 ghost use Rattle.flow.specs.Rows.{pushed, entered, popped, needing, needingTop, ended};
 
 // One M more.
-pub fn push_mark(limit: usize, s: Frames) -> Moved
+pub(crate) fn push_mark(limit: usize, s: Frames) -> Moved
     ensures { λ r. ⌜ r ≡ pushed limit s ⌝ }
 {
     if s.depth >= limit {
@@ -16,16 +18,17 @@ pub fn push_mark(limit: usize, s: Frames) -> Moved
     if s.marks >= limit {
         return Moved::TooDeep;
     }
+    let top = s.top;
     Moved::To(Frames {
-        top: s.top,
+        top,
         marks: s.marks + 1,
         depth: s.depth + 1,
     })
 }
 
 // The frame of the loop that starts before `behind`.
-pub fn enter_loop(limit: usize, behind: usize, s: Frames) -> Moved
-    ensures { λ r. ⌜ r ≡ entered limit behind s ⌝ }
+pub(crate) fn enter_loop(limit: usize, behind: Quadwords, s: Frames) -> Moved
+    ensures { λ r. ⌜ r ≡ entered limit (behind .0) s ⌝ }
 {
     if s.depth < limit {
         return Moved::To(Frames {
@@ -38,7 +41,7 @@ pub fn enter_loop(limit: usize, behind: usize, s: Frames) -> Moved
 }
 
 // `pops` frames M fewer.
-pub fn pop_marks(pops: usize, s: Frames) -> Moved
+pub(crate) fn pop_marks(pops: usize, s: Frames) -> Moved
     ensures { λ r. ⌜ r ≡ popped pops s ⌝ }
 {
     if pops > s.marks {
@@ -47,25 +50,26 @@ pub fn pop_marks(pops: usize, s: Frames) -> Moved
     if pops > s.depth {
         return Moved::Lacks;
     }
+    let top = s.top;
     Moved::To(Frames {
-        top: s.top,
+        top,
         marks: s.marks - pops,
         depth: s.depth - pops,
     })
 }
 
 // A "yes" would pop `pops` frames M; a "no" leaves the stack as it is.
-pub fn need_marks(pops: usize, s: Frames) -> Moved
+pub(crate) fn need_marks(pops: usize, s: Frames) -> Moved
     ensures { λ r. ⌜ r ≡ needing pops s ⌝ }
 {
-    if pops > s.marks {
+    if s.marks < pops {
         return Moved::Lacks;
     }
     Moved::To(s)
 }
 
 // The same, with M on top either way.
-pub fn need_top_mark(pops: usize, s: Frames) -> Moved
+pub(crate) fn need_top_mark(pops: usize, s: Frames) -> Moved
     ensures { λ r. ⌜ r ≡ needingTop pops s ⌝ }
 {
     if s.marks == 0 {
@@ -75,20 +79,20 @@ pub fn need_top_mark(pops: usize, s: Frames) -> Moved
 }
 
 // The innermost loop's frame fewer: below it lies what stood at the loop's start.
-pub fn end_loop(s: Frames, tops: &[usize], marks: &[usize]) -> Moved
+pub(crate) fn end_loop(s: Frames, tops: &[usize], marks: &[usize]) -> Moved
     ensures { λ r. ⌜ r ≡ ended s (now (tops .entry)) (now (marks .entry)) ⌝ }
 {
     if s.marks != 0 {
         return Moved::Lacks;
     }
-    if s.top == 0 {
+    if s.top.0 == 0 {
         return Moved::Lacks;
     }
     if s.depth == 0 {
         return Moved::Lacks;
     }
-    let start = s.top - 1;
-    let top = row_at(tops, start);
+    let start = units::quadword_before(s.top);
+    let top = loop_at(tops, start);
     let below = row_at(marks, start);
     Moved::To(Frames {
         top,

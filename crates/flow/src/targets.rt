@@ -8,15 +8,16 @@ ghost use Rattle.flow.specs.Rules.{isLoopEnd, isForward, isBackward, wro
 ghost use Rattle.flow.specs.Pairs.{flowAt};
 
 // What stands at a place. A pair that does not lie wholly in the words has a high word of 0, and so does nothing.
-pub fn flow_at(words: &[u32], p: usize) -> Flow
-    ensures { λ r. ⌜ r ≡ flowAt (now (words .entry)) p ⌝ }
+pub(crate) fn flow_at(words: &[u32], p: Quadwords) -> Flow
+    ensures { λ r. ⌜ r ≡ flowAt (now (words .entry)) (p .0) ⌝ }
 {
-    let at = units::high_word(Quadwords(p)).0;
+    let at = units::high_word(p).0;
     if at >= words.len() {
         return Flow::Still;
     }
+    let below = units::low_word(p).0;
     let high = words[at];
-    let low = words[at - 1];
+    let low = words[below];
     flow_of(control::control_of(high), low, high)
 }
 
@@ -29,35 +30,35 @@ fn is_loop_end(flow: Flow) -> bool
     }
 }
 
-pub fn is_loop_end_at(words: &[u32], p: usize) -> bool
-    ensures { λ r. ⌜ r ≡ isLoopEnd (flowAt (now (words .entry)) p) ⌝ }
+pub(crate) fn is_loop_end_at(words: &[u32], p: Quadwords) -> bool
+    ensures { λ r. ⌜ r ≡ isLoopEnd (flowAt (now (words .entry)) (p .0)) ⌝ }
 {
     is_loop_end(flow_at(words, p))
 }
 
 // Targets lie in the section and above p ..
-fn is_forward(end: usize, p: usize, target: usize) -> bool
-    ensures { λ r. ⌜ r ≡ isForward end p target ⌝ }
+fn is_forward(end: Quadwords, p: Quadwords, target: Quadwords) -> bool
+    ensures { λ r. ⌜ r ≡ isForward (end .0) (p .0) (target .0) ⌝ }
 {
-    if p >= target {
+    if !units::is_below(p, target) {
         return false;
     }
-    target <= end
+    units::is_at_most(target, end)
 }
 
 // .. but for LOOP_END's, which is at most p.
-fn is_backward(end: usize, p: usize, target: usize) -> bool
-    ensures { λ r. ⌜ r ≡ isBackward end p target ⌝ }
+fn is_backward(end: Quadwords, p: Quadwords, target: Quadwords) -> bool
+    ensures { λ r. ⌜ r ≡ isBackward (end .0) (p .0) (target .0) ⌝ }
 {
-    if target > p {
+    if !units::is_at_most(target, p) {
         return false;
     }
-    target <= end
+    units::is_at_most(target, end)
 }
 
 // BREAK and CONTINUE hit a LOOP_END.
-fn hits_loop_end(words: &[u32], end: usize, p: usize, target: usize) -> bool
-    ensures { λ r. ⌜ r ≡ (isForward end p target && isLoopEnd (flowAt (now (words .entry)) target)) ⌝ }
+fn hits_loop_end(words: &[u32], end: Quadwords, p: Quadwords, target: Quadwords) -> bool
+    ensures { λ r. ⌜ r ≡ (isForward (end .0) (p .0) (target .0) && isLoopEnd (flowAt (now (words .entry)) (target .0))) ⌝ }
 {
     if !is_forward(end, p, target) {
         return false;
@@ -66,19 +67,19 @@ fn hits_loop_end(words: &[u32], end: usize, p: usize, target: usize) -> bool
 }
 
 // Rule 18 at p, where `flow` stands.
-pub fn is_wrong(words: &[u32], flow: Flow, end: usize, p: usize) -> bool
-    ensures { λ r. ⌜ r ≡ wrongTarget end (flowAt (now (words .entry))) p flow ⌝ }
+pub(crate) fn is_wrong(words: &[u32], flow: Flow, end: Quadwords, p: Quadwords) -> bool
+    ensures { λ r. ⌜ r ≡ wrongTarget (end .0) (flowAt (now (words .entry))) (p .0) flow ⌝ }
 {
     match flow {
         Flow::Still => false,
         Flow::PushMark => false,
         Flow::PopMarks(_) => false,
-        Flow::Jump { pops: _, target } => !is_forward(end, p, target.0),
-        Flow::LoopBreak { pops: _, target } => !hits_loop_end(words, end, p, target.0),
-        Flow::LoopContinue { pops: _, target } => !hits_loop_end(words, end, p, target.0),
-        Flow::Else { pops: _, target } => !is_forward(end, p, target.0),
-        Flow::Pop { pops: _, target } => !is_forward(end, p, target.0),
-        Flow::LoopStart(target) => !is_forward(end, p, target.0),
-        Flow::LoopEnd(target) => !is_backward(end, p, target.0),
+        Flow::Jump { pops: _, target } => !is_forward(end, p, target),
+        Flow::LoopBreak { pops: _, target } => !hits_loop_end(words, end, p, target),
+        Flow::LoopContinue { pops: _, target } => !hits_loop_end(words, end, p, target),
+        Flow::Else { pops: _, target } => !is_forward(end, p, target),
+        Flow::Pop { pops: _, target } => !is_forward(end, p, target),
+        Flow::LoopStart(target) => !is_forward(end, p, target),
+        Flow::LoopEnd(target) => !is_backward(end, p, target),
     }
 }

@@ -8,7 +8,8 @@ use native.Mathlib.Omega.{arith}
 use lib.Dec.{eqb, ltb, eqb·zero-suc, eqb·suc-zero, eqb·suc-suc}
 use borrow.Author.Tests.{not-false, lt-ltb}
 use Rattle.units.specs.declared.Quadwords.{Quadwords}
-use Rattle.units.specs.Units.{slots}
+use Rattle.units.specs.declared.Slots.{Slots}
+use Rattle.units.specs.Units.{slots, slotBehind}
 use Rattle.checks.specs.declared.Rule.{Rule}
 use Rattle.checks.specs.declared.Rule.the-variants.{AluNumber, AluField, UnitTaken, IssueLimit, NotGranted}
 use Rattle.checks.specs.declared.Place.the-variants.{Quadword}
@@ -26,7 +27,7 @@ use Rattle.groups.specs.declared.First.the-variants.{Nowhere, At}
 use Rattle.groups.specs.declared.Seen.{Seen}
 use Rattle.groups.specs.declared.GroupFault.{GroupFault}
 use Rattle.groups.specs.declared.GroupFault.the-variants.{Clean, Broken}
-use Rattle.groups.specs.Group.{Words, countBelow, anyBelow, literalsBelow, takenBefore, unitAt, badUnitAt, isSetter, isKill, setters, settersAndKills, anyKill, anyMova, anyRelative, anyReduction, anyUneven, badIssue, eachOf, ruleChecks}
+use Rattle.groups.specs.Group.{PerInstruction, countBelow, anyBelow, literalsBelow, takenBefore, unitAt, badUnitAt, isSetter, isKill, setters, settersAndKills, anyKill, anyMova, anyRelative, anyReduction, anyUneven, badIssue, eachOf, ruleChecks}
 use Rattle.groups.specs.Seen.{countOf, oneMore, countedIf, together, isOne, isSeveral, orHere, firstBelow, nextIssues, issuesOf, badIssues, noneSeen, nextSeen, seenOf, firstFault, faultOf}
 
 -- ---- counts
@@ -60,12 +61,12 @@ counts-several (suc (suc n)) = sym (lt-ltb 1 (suc (suc n)) (omega arith))
 
 -- ---- reading instruction by instruction
 
-module _ (limits : Limits) (lo hi : Words) where
+module _ (limits : Limits) (lo hi : PerInstruction) where
   pub seen-none : noneSeen ≡ seenOf limits lo hi 0
   unfolding seenOf literalsBelow firstBelow takenBefore issuesOf setters settersAndKills anyKill anyMova anyRelative anyReduction anyUneven countBelow anyBelow countOf
   seen-none = refl
 
-  pub seen-next : (j : ℕ) → nextSeen limits j (hi 0) (lo j) (hi j) (seenOf limits lo hi j) ≡ seenOf limits lo hi (suc j)
+  pub seen-next : (j : ℕ) → nextSeen limits (slots j) (hi 0) (lo j) (hi j) (seenOf limits lo hi j) ≡ seenOf limits lo hi (suc j)
   unfolding seenOf nextSeen literalsBelow firstBelow takenBefore badUnitAt unitAt issuesOf nextIssues setters settersAndKills anyKill anyMova anyRelative anyReduction anyUneven countBelow anyBelow
   seen-next j =
       λ i.
@@ -90,11 +91,11 @@ module _ (limits : Limits) (lo hi : Words) where
 
 -- ---- the verdict of a fault
 
-abbrev pub answer : Quadwords → ℕ → GroupFault → Verdict
+abbrev pub answer : Quadwords → Slots → GroupFault → Verdict
 answer place g Clean = Accepted
-answer place g (Broken r j) = Refused r (Quadword place) (slots (g + j))
+answer place g (Broken r j) = Refused r (Quadword place) (slotBehind g j)
 
-module _ (place : Quadwords) (g : ℕ) where
+module _ (place : Quadwords) (g : Slots) where
   -- a rule that was asked of each instruction
   each-answer :
       (r : Rule) (f : ℕ → Bool) (m : ℕ)
@@ -102,13 +103,13 @@ module _ (place : Quadwords) (g : ℕ) where
   unfolding eachOf below firstBroken firstBelow firstFault orHere
   each-answer r f zero = refl
   each-answer r f (suc m) =
-      joined (eachOf r place g f m) (check r (Quadword place) (slots (g + m)) (f m) ∷ [])
-      ∙ ap (λ (v : Verdict). andThen v (firstBroken (check r (Quadword place) (slots (g + m)) (f m) ∷ []))) (each-answer r f m)
+      joined (eachOf r place g f m) (check r (Quadword place) (slotBehind g (slots m)) (f m) ∷ [])
+      ∙ ap (λ (v : Verdict). andThen v (firstBroken (check r (Quadword place) (slotBehind g (slots m)) (f m) ∷ []))) (each-answer r f m)
       ∙ by (firstBelow f m) (f m)
     where
       by : (x : First) (b : Bool)
-          → andThen (answer place g (firstFault r x Clean)) (cond b (Refused r (Quadword place) (slots (g + m))) Accepted)
-          ≡ answer place g (firstFault r (orHere x m b) Clean)
+          → andThen (answer place g (firstFault r x Clean)) (cond b (Refused r (Quadword place) (slotBehind g (slots m))) Accepted)
+          ≡ answer place g (firstFault r (orHere x (slots m) b) Clean)
       by Nowhere true = refl
       by Nowhere false = refl
       by (At k) b = refl
@@ -131,14 +132,14 @@ module _ (place : Quadwords) (g : ℕ) where
 
   issue-then :
       (b : Bool) (cs : List Check) (rest : GroupFault) → firstBroken cs ≡ answer place g rest
-      → firstBroken (check IssueLimit (Quadword place) (slots g) b ∷ cs) ≡ answer place g (cond b (Broken IssueLimit 0) rest)
+      → firstBroken (check IssueLimit (Quadword place) g b ∷ cs) ≡ answer place g (cond b (Broken IssueLimit (slots 0)) rest)
   unfolding firstBroken
-  issue-then true cs rest h = ap (λ (n : ℕ). Refused IssueLimit (Quadword place) (slots n)) (sym (add-zero g))
+  issue-then true cs rest h = ap (λ (n : ℕ). Refused IssueLimit (Quadword place) (slots n)) (sym (add-zero (g .0)))
   issue-then false cs rest h = h
 
 -- ---- the group
 
-module _ (place : Quadwords) (g : ℕ) (limits : Limits) (mayKill : Bool) (lo hi : Words) (m : ℕ) where
+module _ (place : Quadwords) (g : Slots) (limits : Limits) (mayKill : Bool) (lo hi : PerInstruction) (m : ℕ) where
   same-issue : badIssue mayKill lo hi m ≡ badIssues (issuesOf lo hi m) m mayKill
   unfolding badIssue badIssues issuesOf
   same-issue =
@@ -154,7 +155,7 @@ module _ (place : Quadwords) (g : ℕ) (limits : Limits) (mayKill : Bool) (lo hi
       each-then place g AluNumber (λ j. badNumber (hi j)) m _ _
       (each-then place g AluField (λ j. badField (lo j) (hi j)) m _ _
       (each-then place g UnitTaken (badUnitAt hi) m _ _
-      (ap (λ (b : Bool). firstBroken (check IssueLimit (Quadword place) (slots g) b ∷ eachOf NotGranted place g (λ j. not (allGranted limits (named (lo j) (hi j)))) m)) same-issue
+      (ap (λ (b : Bool). firstBroken (check IssueLimit (Quadword place) g b ∷ eachOf NotGranted place g (λ j. not (allGranted limits (named (lo j) (hi j)))) m)) same-issue
       ∙ issue-then place g (badIssues (issuesOf lo hi m) m mayKill) _ _
       (each-answer place g NotGranted (λ j. not (allGranted limits (named (lo j) (hi j)))) m))))
 
@@ -167,40 +168,40 @@ module _ (place : Quadwords) (g : ℕ) (limits : Limits) (mayKill : Bool) (lo hi
       let clean = rest-clean _ _ (right-clean (eachOf UnitTaken place g (badUnitAt hi) m) _ (right-clean (eachOf AluField place g (λ k. badField (lo k) (hi k)) m) _ (right-clean (eachOf AluNumber place g (λ k. badNumber (hi k)) m) _ h))) in
       each-granted limits (named (lo j) (hi j))
       (not-false (allGranted limits (named (lo j) (hi j)))
-      (first-clean (check NotGranted (Quadword place) (slots (g + j)) (not (allGranted limits (named (lo j) (hi j))))) []
-      (below-each (λ k. check NotGranted (Quadword place) (slots (g + k)) (not (allGranted limits (named (lo k) (hi k)))) ∷ []) m j clean l)))
+      (first-clean (check NotGranted (Quadword place) (slotBehind g (slots j)) (not (allGranted limits (named (lo j) (hi j))))) []
+      (below-each (λ k. check NotGranted (Quadword place) (slotBehind g (slots k)) (not (allGranted limits (named (lo k) (hi k)))) ∷ []) m j clean l)))
       n
 
 -- ---- a fault shows within the group
 
 abbrev FirstIn : ℕ → First → Type 0
 FirstIn m Nowhere = Unit {0}
-FirstIn m (At k) = k < m
+FirstIn m (At k) = k .0 < m
 
 first-in : (f : ℕ → Bool) (m : ℕ) → FirstIn m (firstBelow f m)
 unfolding firstBelow orHere
 first-in f zero = tt
 first-in f (suc m) = by (firstBelow f m) (f m) (first-in f m)
   where
-    by : (x : First) (b : Bool) → FirstIn m x → FirstIn (suc m) (orHere x m b)
+    by : (x : First) (b : Bool) → FirstIn m x → FirstIn (suc m) (orHere x (slots m) b)
     by Nowhere true h = omega arith
     by Nowhere false h = tt
     by (At k) b h = omega arith
 
 abbrev pub FaultIn : ℕ → GroupFault → Type 0
 FaultIn m Clean = Unit {0}
-FaultIn m (Broken r j) = j ≤ m
+FaultIn m (Broken r j) = j .0 ≤ m
 
 fault-then : (m : ℕ) (r : Rule) (x : First) (rest : GroupFault) → FirstIn m x → FaultIn m rest → FaultIn m (firstFault r x rest)
 unfolding firstFault
 fault-then m r Nowhere rest h k = k
 fault-then m r (At j) rest h k = omega arith
 
-issue-in : (m : ℕ) (b : Bool) (rest : GroupFault) → FaultIn m rest → FaultIn m (cond b (Broken IssueLimit 0) rest)
+issue-in : (m : ℕ) (b : Bool) (rest : GroupFault) → FaultIn m rest → FaultIn m (cond b (Broken IssueLimit (slots 0)) rest)
 issue-in m true rest k = omega arith
 issue-in m false rest k = k
 
-pub fault-in : (limits : Limits) (mayKill : Bool) (lo hi : Words) (m : ℕ) → FaultIn m (faultOf (seenOf limits lo hi m) m mayKill)
+pub fault-in : (limits : Limits) (mayKill : Bool) (lo hi : PerInstruction) (m : ℕ) → FaultIn m (faultOf (seenOf limits lo hi m) m mayKill)
 unfolding faultOf seenOf
 fault-in limits mayKill lo hi m =
     fault-then m AluNumber (firstBelow (λ j. badNumber (hi j)) m) _ (first-in (λ j. badNumber (hi j)) m)

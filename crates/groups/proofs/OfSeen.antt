@@ -2,6 +2,8 @@
 use mathlib.Core.Path.{_≡_, refl, sym, ap, _∙_}
 use mathlib.Core.Bool.{Bool, true, false, not}
 use Prim.Native.Nat.{ℕ, max}
+use Rattle.units.specs.declared.Slots.{Slots}
+use Rattle.units.specs.Units.{slots}
 use borrow.Author.Tests.{not-true, not-false}
 use Rattle.groups.specs.declared.counts.Count.{Count}
 use Rattle.groups.specs.declared.counts.Count.the-variants.{Nothing, One, Several}
@@ -17,7 +19,7 @@ use Rattle.grants.specs.Grants.{allGranted}
 use Rattle.instructions.specs.Instruction.{classOf, badNumber, badField, hasRelative, literals, named}
 use Rattle.groups.specs.declared.Issues.{Issues}
 use Rattle.groups.specs.declared.Seen.{Seen}
-use Rattle.groups.specs.Group.{Taken, unitFor, unitOf, badUnit, take, isUneven}
+use Rattle.groups.specs.Group.{Taken, unitFor, unitOf, badUnit, occupied, isUneven}
 use Rattle.groups.specs.Seen.{countedIf, oneMore, together, orHere, nextIssues, badIssues, nextSeen, firstFault, faultOf}
 
 pub not-counted : (b : Bool) (n : Count) → not b ≡ true → n ≡ countedIf b n
@@ -26,7 +28,7 @@ not-counted b n h = rw (not-true b h)
 pub counted-more : (b : Bool) (n told : Count) → not b ≡ false → n ≡ told → oneMore told ≡ countedIf b n
 counted-more b n told h e = rw (not-false b h, e)
 
-module _ (x : First) (j : ℕ) (b : Bool) where
+module _ (x : First) (j : Slots) (b : Bool) where
   pub here : x ≡ Nowhere → b ≡ true → At j ≡ orHere x j b
   unfolding orHere
   here e h = rw (e, h)
@@ -35,7 +37,7 @@ module _ (x : First) (j : ℕ) (b : Bool) where
   unfolding orHere
   not-here e h = rw (e, h)
 
-  pub earlier : (k : ℕ) → x ≡ At k → At k ≡ orHere x j b
+  pub earlier : (k : Slots) → x ≡ At k → At k ≡ orHere x j b
   unfolding orHere
   earlier k e = rw e
 
@@ -51,16 +53,16 @@ with-one a b r e f = f ∙ by b ∙ ap (λ (n : Count). together n b) (sym e)
 -- ---- one instruction more, from what was asked of it
 
 -- its class, its unit and what follows from them
-pub record Asked (t : Taken) (j first h : ℕ) (k : Class) (chan u swizzle : ℕ) (bad uneven taken : Bool) : Type 0 where
+pub record Asked (t : Taken) (j : Slots) (first h : ℕ) (k : Class) (chan u swizzle : ℕ) (bad uneven taken : Bool) : Type 0 where
   pub class-is : k ≡ classOf h
   pub chan-is : chan ≡ fieldOf h 29 2
   pub unit-is : u ≡ unitFor t (k .unit) chan
   pub swizzle-is : swizzle ≡ fieldOf h 18 3
   pub bad-is : bad ≡ badUnit t u swizzle
-  pub uneven-is : uneven ≡ isUneven j u first h
+  pub uneven-is : uneven ≡ isUneven (j .0) u first h
   pub taken-is : taken ≡ alu.isTaken k
 
-module _ (limits : Limits) (j first l h : ℕ) (s : Seen) {k : Class} {chan u swizzle : ℕ} {bad uneven taken : Bool}
+module _ (limits : Limits) (j : Slots) (first l h : ℕ) (s : Seen) {k : Class} {chan u swizzle : ℕ} {bad uneven taken : Bool}
     (q : Asked (s .taken) j first h k chan u swizzle bad uneven taken) where
   unit-of : u ≡ unitOf (s .taken) h
   unfolding unitOf
@@ -77,7 +79,7 @@ module _ (limits : Limits) (j first l h : ℕ) (s : Seen) {k : Class} {chan u sw
       → units ≡ orHere (s .units) j bad
       → granted ≡ allGranted limits (named l h)
       → grants ≡ orHere (s .grants) j (not granted)
-      → after ≡ take (s .taken) u
+      → after ≡ occupied (s .taken) u
       → relative ≡ hasRelative l h
       → issues ≡ nextIssues (s .issues) (k .issue) relative uneven
       → record { literals = literal; numbers = numbers; fields = fields; units = units; grants = grants; taken = after; issues = issues } ≡ nextSeen limits j first l h s
@@ -90,35 +92,35 @@ module _ (limits : Limits) (j first l h : ℕ) (s : Seen) {k : Class} {chan u sw
         fields = (fields-is ∙ ap (orHere (s .fields) j) wrong-is) i;
         units = (units-is ∙ ap (orHere (s .units) j) (q .bad-is ∙ (λ n. badUnit (s .taken) (unit-of n) (q .swizzle-is n)))) i;
         grants = (grants-is ∙ (λ n. orHere (s .grants) j (not (granted-is n)))) i;
-        taken = (after-is ∙ ap (take (s .taken)) unit-of) i;
+        taken = (after-is ∙ ap (occupied (s .taken)) unit-of) i;
         issues =
-            (issues-is ∙ (λ n. nextIssues (s .issues) (q .class-is n .issue) (relative-is n) ((q .uneven-is ∙ (λ m. isUneven j (unit-of m) first h)) n)))
+            (issues-is ∙ (λ n. nextIssues (s .issues) (q .class-is n .issue) (relative-is n) ((q .uneven-is ∙ (λ m. isUneven (j .0) (unit-of m) first h)) n)))
             i;
       }
 
 -- ---- the group's fault, rule by rule
 
 module _ (s : Seen) (m : ℕ) (mayKill : Bool) where
-  pub breaks-11 : {j : ℕ} → s .numbers ≡ At j → Broken AluNumber j ≡ faultOf s m mayKill
+  pub breaks-11 : {j : Slots} → s .numbers ≡ At j → Broken AluNumber j ≡ faultOf s m mayKill
   unfolding faultOf firstFault
   breaks-11 a = rw a
 
   module _ (a : s .numbers ≡ Nowhere) where
-    pub breaks-12 : {j : ℕ} → s .fields ≡ At j → Broken AluField j ≡ faultOf s m mayKill
+    pub breaks-12 : {j : Slots} → s .fields ≡ At j → Broken AluField j ≡ faultOf s m mayKill
     unfolding faultOf firstFault
     breaks-12 b = rw (a, b)
 
     module _ (b : s .fields ≡ Nowhere) where
-      pub breaks-13 : {j : ℕ} → s .units ≡ At j → Broken UnitTaken j ≡ faultOf s m mayKill
+      pub breaks-13 : {j : Slots} → s .units ≡ At j → Broken UnitTaken j ≡ faultOf s m mayKill
       unfolding faultOf firstFault
       breaks-13 d = rw (a, b, d)
 
       module _ (d : s .units ≡ Nowhere) {bad : Bool} (e : bad ≡ badIssues (s .issues) m mayKill) where
-        pub breaks-14 : bad ≡ true → Broken IssueLimit 0 ≡ faultOf s m mayKill
+        pub breaks-14 : bad ≡ true → Broken IssueLimit (slots 0) ≡ faultOf s m mayKill
         unfolding faultOf firstFault
         breaks-14 h = rw (a, b, d, sym e ∙ h)
 
-        pub breaks-15 : {j : ℕ} → bad ≡ false → s .grants ≡ At j → Broken NotGranted j ≡ faultOf s m mayKill
+        pub breaks-15 : {j : Slots} → bad ≡ false → s .grants ≡ At j → Broken NotGranted j ≡ faultOf s m mayKill
         unfolding faultOf firstFault
         breaks-15 h g = rw (a, b, d, sym e ∙ h, g)
 

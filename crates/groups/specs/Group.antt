@@ -1,11 +1,12 @@
 -- Rules 11 to 15 on one group: document 01, "Groups of ALU slots". A group of m instructions is given by its words: instruction j, from
 -- 0 on, is `lo j` and `hi j`. What is asked of an instruction by itself stands in `instructions`.
-use Prim.Native.Nat.{ℕ, zero, suc, _+_, max}
+use Prim.Native.Nat.{ℕ, zero, suc, max}
 use mathlib.Core.Bool.{Bool, true, false, cond, not, _&&_, _||_}
 use mathlib.Core.List.{List, [], _∷_, _++_}
 use lib.Dec.{eqb, ltb}
 use Rattle.units.specs.declared.Quadwords.{Quadwords}
-use Rattle.units.specs.Units.{slots}
+use Rattle.units.specs.declared.Slots.{Slots}
+use Rattle.units.specs.Units.{slots, slotBehind}
 use Rattle.bits.specs.Fields.{fieldOf, withField}
 use Rattle.checks.specs.declared.Rule.{Rule}
 use Rattle.checks.specs.declared.Rule.the-variants.{AluNumber, AluField, UnitTaken, IssueLimit, NotGranted}
@@ -21,8 +22,9 @@ use Rattle.instructions.specs.Instruction.{classOf, badNumber, badField, hasRel
 
 -- ---- over the instructions below m
 
-abbrev pub Words : Type 0
-Words = ℕ → ℕ
+-- a word of each instruction, by its number in the group
+abbrev pub PerInstruction : Type 0
+PerInstruction = ℕ → ℕ
 
 unfoldable pub countBelow : (ℕ → Bool) → ℕ → ℕ
 countBelow f zero = 0
@@ -34,7 +36,7 @@ anyBelow f (suc m) = anyBelow f m || f m
 
 -- ---- 10: the literal quadwords of a group, by its highest literal channel
 
-unfoldable pub literalsBelow : Words → Words → ℕ → ℕ
+unfoldable pub literalsBelow : PerInstruction → PerInstruction → ℕ → ℕ
 literalsBelow lo hi zero = 0
 literalsBelow lo hi (suc m) = max (literalsBelow lo hi m) (literals (lo m) (hi m))
 
@@ -47,8 +49,9 @@ Taken = ℕ
 unfoldable pub isTaken : Taken → ℕ → Bool
 isTaken t u = eqb (fieldOf t u 1) 1
 
-unfoldable pub take : Taken → ℕ → Taken
-take t u = withField t u 1 1
+-- the units taken, with that one too
+unfoldable pub occupied : Taken → ℕ → Taken
+occupied t u = withField t u 1 1
 
 unfoldable pub isAny : Unit → Bool
 isAny NotTaken = false
@@ -80,15 +83,15 @@ badUnit t u swizzle = takenFrom t u || (eqb u 4 && ltb 3 swizzle)
 unfoldable pub unitOf : Taken → ℕ → ℕ
 unitOf t h = unitFor t (classOf h .unit) (fieldOf h 29 2)
 
-unfoldable pub takenBefore : Words → ℕ → Taken
+unfoldable pub takenBefore : PerInstruction → ℕ → Taken
 takenBefore hi zero = 0
-takenBefore hi (suc j) = take (takenBefore hi j) (unitOf (takenBefore hi j) (hi j))
+takenBefore hi (suc j) = occupied (takenBefore hi j) (unitOf (takenBefore hi j) (hi j))
 
-unfoldable pub unitAt : Words → ℕ → ℕ
+unfoldable pub unitAt : PerInstruction → ℕ → ℕ
 unitAt hi j = unitOf (takenBefore hi j) (hi j)
 
 -- BANK_SWIZZLE is 20:18
-unfoldable pub badUnitAt : Words → ℕ → Bool
+unfoldable pub badUnitAt : PerInstruction → ℕ → Bool
 badUnitAt hi j = badUnit (takenBefore hi j) (unitAt hi j) (fieldOf (hi j) 18 3)
 
 -- ---- 14: issue, by number alone
@@ -121,22 +124,22 @@ isReduction Kill = false
 isReduction Mova = false
 isReduction Reduction = true
 
-unfoldable pub setters : Words → ℕ → ℕ
+unfoldable pub setters : PerInstruction → ℕ → ℕ
 setters hi m = countBelow (λ j. isSetter (classOf (hi j) .issue)) m
 
-unfoldable pub settersAndKills : Words → ℕ → ℕ
+unfoldable pub settersAndKills : PerInstruction → ℕ → ℕ
 settersAndKills hi m = countBelow (λ j. isSetter (classOf (hi j) .issue) || isKill (classOf (hi j) .issue)) m
 
-unfoldable pub anyKill : Words → ℕ → Bool
+unfoldable pub anyKill : PerInstruction → ℕ → Bool
 anyKill hi m = anyBelow (λ j. isKill (classOf (hi j) .issue)) m
 
-unfoldable pub anyMova : Words → ℕ → Bool
+unfoldable pub anyMova : PerInstruction → ℕ → Bool
 anyMova hi m = anyBelow (λ j. isMova (classOf (hi j) .issue)) m
 
-unfoldable pub anyRelative : Words → Words → ℕ → Bool
+unfoldable pub anyRelative : PerInstruction → PerInstruction → ℕ → Bool
 anyRelative lo hi m = anyBelow (λ j. hasRelative (lo j) (hi j)) m
 
-unfoldable pub anyReduction : Words → ℕ → Bool
+unfoldable pub anyReduction : PerInstruction → ℕ → Bool
 anyReduction hi m = anyBelow (λ j. isReduction (classOf (hi j) .issue)) m
 
 -- one number (17:7), equal OMOD (6:5) and CLAMP (31)
@@ -149,12 +152,12 @@ isAlike g h =
 unfoldable pub isUneven : ℕ → ℕ → ℕ → ℕ → Bool
 isUneven j u first h = ltb j 4 && not (eqb u j && isAlike first h)
 
-unfoldable pub anyUneven : Words → ℕ → Bool
+unfoldable pub anyUneven : PerInstruction → ℕ → Bool
 anyUneven hi m = anyBelow (λ j. isUneven j (unitAt hi j) (hi 0) (hi j)) m
 
 -- at most one of all predicate setters and kills together; kills only where they may stand; no MOVA in a group with any relative bit
 -- set; a reduction fills all four vector units with one number, equal OMOD and CLAMP
-unfoldable pub badIssue : Bool → Words → Words → ℕ → Bool
+unfoldable pub badIssue : Bool → PerInstruction → PerInstruction → ℕ → Bool
 badIssue mayKill lo hi m =
     ltb 1 (settersAndKills hi m)
     || ((anyKill hi m && not mayKill)
@@ -163,14 +166,14 @@ badIssue mayKill lo hi m =
 
 -- ---- the order: 11 to 15 rising, lowest slot first. The group's first slot is g, its opener stands at the place
 
--- a rule asked of each instruction
-unfoldable pub eachOf : Rule → Quadwords → ℕ → (ℕ → Bool) → ℕ → List Check
-eachOf r place g f m = below (λ j. check r (Quadword place) (slots (g + j)) (f j) ∷ []) m
+-- a rule asked of each instruction: instruction j stands j slots behind the first
+unfoldable pub eachOf : Rule → Quadwords → Slots → (ℕ → Bool) → ℕ → List Check
+eachOf r place g f m = below (λ j. check r (Quadword place) (slotBehind g (slots j)) (f j) ∷ []) m
 
-unfoldable pub ruleChecks : Quadwords → ℕ → Limits → Bool → Words → Words → ℕ → List Check
+unfoldable pub ruleChecks : Quadwords → Slots → Limits → Bool → PerInstruction → PerInstruction → ℕ → List Check
 ruleChecks place g limits mayKill lo hi m =
     eachOf AluNumber place g (λ j. badNumber (hi j)) m
     ++ (eachOf AluField place g (λ j. badField (lo j) (hi j)) m
     ++ (eachOf UnitTaken place g (badUnitAt hi) m
-    ++ (check IssueLimit (Quadword place) (slots g) (badIssue mayKill lo hi m)
+    ++ (check IssueLimit (Quadword place) g (badIssue mayKill lo hi m)
     ∷ eachOf NotGranted place g (λ j. not (allGranted limits (named (lo j) (hi j)))) m)))

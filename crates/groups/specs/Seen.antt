@@ -3,6 +3,8 @@
 use Prim.Native.Nat.{ℕ, zero, suc, max}
 use mathlib.Core.Bool.{Bool, true, false, cond, not, _&&_, _||_}
 use lib.Dec.{ltb}
+use Rattle.units.specs.declared.Slots.{Slots}
+use Rattle.units.specs.Units.{slots}
 use Rattle.bits.specs.Fields.{fieldOf}
 use Rattle.checks.specs.declared.Rule.{Rule}
 use Rattle.checks.specs.declared.Rule.the-variants.{AluNumber, AluField, UnitTaken, IssueLimit, NotGranted}
@@ -18,7 +20,7 @@ use Rattle.groups.specs.declared.Issues.{Issues}
 use Rattle.groups.specs.declared.Seen.{Seen}
 use Rattle.groups.specs.declared.GroupFault.{GroupFault}
 use Rattle.groups.specs.declared.GroupFault.the-variants.{Clean, Broken}
-use Rattle.groups.specs.Group.{Words, take, unitOf, takenBefore, badUnit, badUnitAt, isSetter, isKill, isMova, isReduction, setters, settersAndKills, anyKill, anyMova, anyRelative, anyReduction, isUneven, anyUneven, literalsBelow}
+use Rattle.groups.specs.Group.{PerInstruction, occupied, unitOf, takenBefore, badUnit, badUnitAt, isSetter, isKill, isMova, isReduction, setters, settersAndKills, anyKill, anyMova, anyRelative, anyReduction, isUneven, anyUneven, literalsBelow}
 
 -- ---- counts: none, one or several
 
@@ -55,13 +57,13 @@ isSeveral Several = true
 
 -- ---- the first instruction that breaks a rule
 
-unfoldable pub orHere : First → ℕ → Bool → First
+unfoldable pub orHere : First → Slots → Bool → First
 orHere Nowhere j b = cond b (At j) Nowhere
 orHere (At k) j b = At k
 
 unfoldable pub firstBelow : (ℕ → Bool) → ℕ → First
 firstBelow f zero = Nowhere
-firstBelow f (suc m) = orHere (firstBelow f m) m (f m)
+firstBelow f (suc m) = orHere (firstBelow f m) (slots m) (f m)
 
 -- ---- rule 14's figures
 
@@ -77,7 +79,7 @@ nextIssues i issue relative uneven =
       uneven = i .uneven || uneven;
     }
 
-unfoldable pub issuesOf : Words → Words → ℕ → Issues
+unfoldable pub issuesOf : PerInstruction → PerInstruction → ℕ → Issues
 issuesOf lo hi m =
     record {
       setters = countOf (setters hi m);
@@ -117,8 +119,8 @@ noneSeen =
           };
     }
 
--- one instruction more, the j-th, where `first` is the high word of the group's first
-unfoldable pub nextSeen : Limits → ℕ → ℕ → ℕ → ℕ → Seen → Seen
+-- one instruction more, in slot j of the group, where `first` is the high word of the group's first
+unfoldable pub nextSeen : Limits → Slots → ℕ → ℕ → ℕ → Seen → Seen
 nextSeen limits j first l h s =
     record {
       literals = max (s .literals) (literals l h);
@@ -126,12 +128,12 @@ nextSeen limits j first l h s =
       fields = orHere (s .fields) j (badField l h);
       units = orHere (s .units) j (badUnit (s .taken) (unitOf (s .taken) h) (fieldOf h 18 3));
       grants = orHere (s .grants) j (not (allGranted limits (named l h)));
-      taken = take (s .taken) (unitOf (s .taken) h);
-      issues = nextIssues (s .issues) (classOf h .issue) (hasRelative l h) (isUneven j (unitOf (s .taken) h) first h);
+      taken = occupied (s .taken) (unitOf (s .taken) h);
+      issues = nextIssues (s .issues) (classOf h .issue) (hasRelative l h) (isUneven (j .0) (unitOf (s .taken) h) first h);
     }
 
 -- what has been seen of the first m instructions
-unfoldable pub seenOf : Limits → Words → Words → ℕ → Seen
+unfoldable pub seenOf : Limits → PerInstruction → PerInstruction → ℕ → Seen
 seenOf limits lo hi m =
     record {
       literals = literalsBelow lo hi m;
@@ -154,4 +156,4 @@ faultOf s m mayKill =
     firstFault AluNumber (s .numbers)
     (firstFault AluField (s .fields)
     (firstFault UnitTaken (s .units)
-    (cond (badIssues (s .issues) m mayKill) (Broken IssueLimit 0) (firstFault NotGranted (s .grants) Clean))))
+    (cond (badIssues (s .issues) m mayKill) (Broken IssueLimit (slots 0)) (firstFault NotGranted (s .grants) Clean))))

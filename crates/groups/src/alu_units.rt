@@ -3,6 +3,7 @@
 use bits::field;
 use bits::with_bit;
 use opcodes::alu::Unit;
+use units::Slots;
 ghost use mathlib.Core.Path.{_≡_};
 ghost use Rattle.groups.specs.Group as group;
 
@@ -12,8 +13,9 @@ fn is_taken(taken: u32, unit: u32) -> bool
     field(taken, unit, 1) == 1
 }
 
-pub fn take(taken: u32, unit: u32) -> u32
-    ensures { λ r. ⌜ r ≡ group.take taken unit ⌝ }
+// The units taken, with that one too.
+pub fn occupy(taken: u32, unit: u32) -> u32
+    ensures { λ r. ⌜ r ≡ group.occupied taken unit ⌝ }
 {
     with_bit(taken, unit)
 }
@@ -60,12 +62,12 @@ pub fn is_bad_unit(taken: u32, unit: u32, swizzle: u32) -> bool
     taken_from(taken, unit) | ((unit == 4) & (3 < swizzle))
 }
 
-// Whether a reduction's group is broken by instruction j, in that unit: it is one of the first four and not in the unit of its number,
+// Whether a reduction's group is broken by the instruction in its slot j, in that unit: it is one of the first four and not in the unit of its number,
 // or unlike the group's first in number, OMOD or CLAMP.
-pub fn is_uneven(j: usize, unit: u32, first: u32, high: u32) -> bool
-    ensures { λ r. ⌜ r ≡ group.isUneven j unit first high ⌝ }
+pub fn is_uneven(j: Slots, unit: u32, first: u32, high: u32) -> bool
+    ensures { λ r. ⌜ r ≡ group.isUneven (j .0) unit first high ⌝ }
 {
-    (j < 4) & !((unit as usize == j) & is_alike(first, high))
+    (j.0 < 4) & !((unit as usize == j.0) & is_alike(first, high))
 }
 
 fn is_alike(a: u32, b: u32) -> bool

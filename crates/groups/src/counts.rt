@@ -9,7 +9,7 @@ pub enum Count {
 }
 
 // One more if `yes`.
-pub fn counted_if(yes: bool, count: Count) -> Count
+pub(crate) fn counted_if(yes: bool, count: Count) -> Count
     ensures { λ r. ⌜ r ≡ countedIf yes count ⌝ }
 {
     if !yes {
@@ -43,7 +43,7 @@ pub fn is_one(count: Count) -> bool
     }
 }
 
-pub fn is_several(count: Count) -> bool
+pub(crate) fn is_several(count: Count) -> bool
     ensures { λ r. ⌜ r ≡ isSeveral count ⌝ }
 {
     match count {

@@ -11,14 +11,15 @@ use counts::Count;
 use grants::Limits;
 use instructions::class_of;
 use opcodes::alu::Issue;
+use units::Slots;
 ghost use mathlib.Core.Path.{_≡_};
 ghost use Rattle.groups.specs.Group as group;
 ghost use Rattle.groups.specs.Seen as seen_spec;
 
-// The first instruction of a group that breaks a rule, counted from 0.
+// The first instruction of a group that breaks a rule, by how many slots it lies behind the group's first.
 pub enum First {
     Nowhere,
-    At(usize),
+    At(Slots),
 }
 
 // Rule 14's figures.
@@ -50,7 +51,7 @@ pub struct Seen {
 // What a group breaks, and how many slots behind its first.
 pub enum GroupFault {
     Clean,
-    Broken(Rule, usize),
+    Broken(Rule, Slots),
 }
 
 // Nothing read yet.
@@ -76,11 +77,11 @@ pub fn none_seen() -> Seen
     }
 }
 
-// One instruction more, the j-th; `first` is the high word of the group's first instruction.
+// One instruction more, in slot j of the group; `first` is the high word of the group's first instruction.
 pub fn read_instruction(
     seen: Seen,
     limits: Limits,
-    j: usize,
+    j: Slots,
     first: u32,
     low: u32,
     high: u32,
@@ -108,14 +109,14 @@ pub fn read_instruction(
             j,
             !instructions::operands_granted(limits, low, high),
         ),
-        taken: alu_units::take(seen.taken, unit),
+        taken: alu_units::occupy(seen.taken, unit),
         issues: next_issues(seen.issues, issue, relative, uneven),
     }
 }
 
 // The first broken rule of a group of `size` instructions; `may_kill` where kills may stand.
-pub fn group_fault(seen: Seen, size: usize, may_kill: bool) -> GroupFault
-    ensures { λ r. ⌜ r ≡ seen_spec.faultOf seen size «may_kill» ⌝ }
+pub fn group_fault(seen: Seen, size: Slots, may_kill: bool) -> GroupFault
+    ensures { λ r. ⌜ r ≡ seen_spec.faultOf seen (size .0) «may_kill» ⌝ }
 {
     let numbers = seen.numbers;
     if let First::At(j) = numbers {
@@ -130,7 +131,7 @@ pub fn group_fault(seen: Seen, size: usize, may_kill: bool) -> GroupFault
         return GroupFault::Broken(Rule::UnitTaken, j);
     }
     if is_bad_issue(seen.issues, size, may_kill) {
-        return GroupFault::Broken(Rule::IssueLimit, 0);
+        return GroupFault::Broken(Rule::IssueLimit, Slots(0));
     }
     let grants = seen.grants;
     if let First::At(j) = grants {
@@ -140,12 +141,12 @@ pub fn group_fault(seen: Seen, size: usize, may_kill: bool) -> GroupFault
 }
 
 // Rule 14, from its figures.
-pub fn is_bad_issue(issues: Issues, size: usize, may_kill: bool) -> bool
-    ensures { λ r. ⌜ r ≡ seen_spec.badIssues issues size «may_kill» ⌝ }
+pub fn is_bad_issue(issues: Issues, size: Slots, may_kill: bool) -> bool
+    ensures { λ r. ⌜ r ≡ seen_spec.badIssues issues (size .0) «may_kill» ⌝ }
 {
     let wrong_kill = issues.kill & !may_kill;
     let wrong_mova = issues.mova & issues.relative;
-    let wrong_reduction = issues.reduction & ((size < 4) | issues.uneven);
+    let wrong_reduction = issues.reduction & ((size.0 < 4) | issues.uneven);
     let issued = issues.issued;
     counts::is_several(issued) | (wrong_kill | (wrong_mova | wrong_reduction))
 }
@@ -216,7 +217,7 @@ fn is_reduction(issue: Issue) -> bool
     }
 }
 
-fn or_here(first: First, j: usize, broken: bool) -> First
+fn or_here(first: First, j: Slots, broken: bool) -> First
     ensures { λ r. ⌜ r ≡ seen_spec.orHere first j broken ⌝ }
 {
     match first {

@@ -9,14 +9,15 @@ use Rattle.card.specs.Card.{cardWith}
 use Rattle.checks.specs.Verdict.{verdictNumber, verdictPlace, verdictSlot}
 use Rattle.checks.specs.Checks.{firstBroken, below}
 use Rattle.judge.specs.Judge.{lineChecks, isPushBefore, fetchKind, clauseChecks, pairChecks, firstChecks, passes, checks, judgement}
-use Rattle.control.specs.Control.{lowAt, highAt, isAluOpener, aluControl, cfControl, controlOf, controlAt, isEnd, endFrom, endOf}
+use Rattle.units.specs.Units.{lowAt, highAt}
+use Rattle.control.specs.Control.{isAluOpener, aluControl, cfControl, controlOf, controlAt, isEnd, endFrom, endOf}
 use Rattle.control.specs.Rules.{badLength, noEnd, isNotTaken, badModes, badStill, badBranch, badReserved, badField, aluClause, fetchClause, clauseOf, outside, badRange, pixelTarget, vertexTarget, badTarget, badSelectors, badExportRegister, exportRule, isExport, badExport}
 use Rattle.flow.specs.Flow.{popTo, move, stackOf, stackAt}
 use Rattle.flow.specs.Pairs.{flowOf, flowAt}
 use Rattle.flow.specs.Rules.{lacking, lacksAt, badDepth, leftOver, isLoopEnd, isForward, isBackward, wrongTarget, sameFrame, sameStack, carries, onTop, backTo, endsLoop, differs, badStack, stackChecks, secondChecks}
 use Rattle.opcodes.specs.Alu.{op2, op3, op2Class, op3Class}
 use Rattle.instructions.specs.Instruction.{isOp3, classOf, badNumber, isRelative, sourceLiterals, literals, badSource, hasRelative, isWritten, destinationNames, namesOf, named}
-use Rattle.groups.specs.Group.{countBelow, anyBelow, literalsBelow, isTaken, take, isAny, isTrans, unitFor, takenFrom, badUnit, unitOf, takenBefore, unitAt, badUnitAt, isSetter, isKill, isMova, isReduction, setters, settersAndKills, anyKill, anyMova, anyRelative, anyReduction, isAlike, isUneven, anyUneven, badIssue, eachOf, ruleChecks}
+use Rattle.groups.specs.Group.{countBelow, anyBelow, literalsBelow, isTaken, occupied, isAny, isTrans, unitFor, takenFrom, badUnit, unitOf, takenBefore, unitAt, badUnitAt, isSetter, isKill, isMova, isReduction, setters, settersAndKills, anyKill, anyMova, anyRelative, anyReduction, isAlike, isUneven, anyUneven, badIssue, eachOf, ruleChecks}
 use Rattle.clauses.specs.Clause.{lowOf, highOf, isLast, sizeFrom, sizeOf, spanOf, badShape, groupsFrom, groupsOf, isPixel, groupChecks, checksOf, settersIn, badPush, insideBuffer}
 use Rattle.instructions.specs.Instruction as instruction
 use Rattle.clauses.specs.Clause as alu
@@ -71,5 +72,5 @@ abbrev given : Example → List ℕ
 given x = x .answer
 
 table : map judged examples ≡ map given examples
-unfolding lowAt highAt isAluOpener aluControl cfControl controlOf controlAt isEnd endFrom endOf badLength noEnd isNotTaken badModes badStill badBranch badReserved badField aluClause fetchClause clauseOf outside badRange pixelTarget vertexTarget badTarget badSelectors badExportRegister exportRule isExport badExport popTo move stackOf stackAt flowOf flowAt lacking lacksAt badDepth leftOver isLoopEnd isForward isBackward wrongTarget sameFrame sameStack carries onTop backTo endsLoop differs badStack stackChecks secondChecks op2 op3 op2Class op3Class isOp3 classOf badNumber isRelative sourceLiterals literals badSource hasRelative isWritten destinationNames namesOf named countBelow anyBelow literalsBelow isTaken take isAny isTrans unitFor takenFrom badUnit unitOf takenBefore unitAt badUnitAt isSetter isKill isMova isReduction setters settersAndKills anyKill anyMova anyRelative anyReduction isAlike isUneven anyUneven badIssue eachOf ruleChecks lowOf highOf isLast sizeFrom sizeOf spanOf badShape groupsFrom groupsOf isPixel groupChecks checksOf settersIn badPush insideBuffer instruction.badField alu.clauseChecks flow.badTarget firstBroken below lineChecks isPushBefore fetchKind clauseChecks pairChecks firstChecks passes checks judgement examples
+unfolding lowAt highAt isAluOpener aluControl cfControl controlOf controlAt isEnd endFrom endOf badLength noEnd isNotTaken badModes badStill badBranch badReserved badField aluClause fetchClause clauseOf outside badRange pixelTarget vertexTarget badTarget badSelectors badExportRegister exportRule isExport badExport popTo move stackOf stackAt flowOf flowAt lacking lacksAt badDepth leftOver isLoopEnd isForward isBackward wrongTarget sameFrame sameStack carries onTop backTo endsLoop differs badStack stackChecks secondChecks op2 op3 op2Class op3Class isOp3 classOf badNumber isRelative sourceLiterals literals badSource hasRelative isWritten destinationNames namesOf named countBelow anyBelow literalsBelow isTaken occupied isAny isTrans unitFor takenFrom badUnit unitOf takenBefore unitAt badUnitAt isSetter isKill isMova isReduction setters settersAndKills anyKill anyMova anyRelative anyReduction isAlike isUneven anyUneven badIssue eachOf ruleChecks lowOf highOf isLast sizeFrom sizeOf spanOf badShape groupsFrom groupsOf isPixel groupChecks checksOf settersIn badPush insideBuffer instruction.badField alu.clauseChecks flow.badTarget firstBroken below lineChecks isPushBefore fetchKind clauseChecks pairChecks firstChecks passes checks judgement examples
 table = refl

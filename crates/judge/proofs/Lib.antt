@@ -4,4 +4,5 @@ pub mod OfStack
 pub mod OfPass
 pub mod OfSafe
 pub mod OfJudge
+pub mod OfBounds
 pub mod Examples

@@ -2,9 +2,8 @@
 use mathlib.Core.Path.{_≡_, refl, sym, ap, _∙_, subst}
 use mathlib.Core.Bool.{Bool, true, false, cond, not}
 use mathlib.Core.List.{List, [], _∷_}
-use Prim.Native.Nat.{ℕ, suc, _+_, _-_}
+use Prim.Native.Nat.{ℕ, suc, _-_}
 use native.Mathlib.Omega.{arith}
-use native.Mathlib.Numerals.{add-one}
 use Rattle.units.specs.declared.Quadwords.{Quadwords}
 use Rattle.units.specs.declared.Slots.{Slots}
 use Rattle.units.specs.Units.{quadwords, slots, isAtMost}
@@ -23,7 +22,6 @@ use Rattle.card.specs.declared.CardTest.the-variants as test
 use Rattle.card.specs.declared.CardRead.{CardRead}
 use Rattle.card.specs.declared.CardRead.the-variants as read
 use Rattle.card.specs.Card.{firstNot, figureTests, testOf, cardOf}
-use Rattle.card.proofs.OfCard.{range-figures}
 use Rattle.control.specs.Control.{searched, endOf}
 use Rattle.control.specs.Rules.{badLength, noEnd}
 use Rattle.control.proofs.OfEnd.{ends-at}
@@ -83,10 +81,10 @@ refuses :
 refuses e h = (e ∙ sym h, λ a. absurd (never-accepted (sym e ∙ a)))
 
 module _ (card : Card) (w : List ℕ) {t : CardTest} (e : t ≡ testOf card) where
-  pub bad-card : {n : ℕ} → t ≡ test.BadLine n → Meets card w (Refused CardLine (Line n) (slots 0))
+  pub bad-card : {n : ℕ} {v : Verdict} → t ≡ test.BadLine n → v ≡ Refused CardLine (Line n) (slots 0) → Meets card w v
   unfolding judgement checks
-  bad-card h =
-      refuses refl
+  bad-card h q =
+      refuses q
       (joined-refused (lineChecks (figureTests card)) _ (lines-are card ∙ ap lineVerdict (sym e ∙ h)))
 
   module _ (h : t ≡ test.InRange) where
@@ -124,7 +122,7 @@ module _ (card : Card) (w : List ℕ) {t : CardTest} (e : t ≡ testOf card) whe
           pub by-passes : {v : Verdict} → v ≡ firstBroken (passes card w (z .0)) → Meets card w v
           by-passes g =
               let y = g ∙ sym (past-length ∙ miss (check NoEnd Whole (slots 0) (noEnd w)) _ (no-end-is false x) ∙ ap (λ (n : ℕ). firstBroken (passes card w n)) end-is) in
-              (y, λ a. accepted-safely card w (range-figures card (sym e ∙ h)) (sym y ∙ a))
+              (y, λ a. accepted-safely card w (sym y ∙ a))
 
 -- ---- both passes
 
@@ -134,11 +132,11 @@ module _ (card : Card) (w : List ℕ) (e : ℕ) {v : Verdict} (f : v ≡ firstBr
   in-first q = sym (joined-refused (below (firstChecks card w e) (suc e)) (below (secondChecks e (flowAt w)) (suc e)) (sym f ∙ q))
 
   pub in-second :
-      {u : Verdict} (tops marks : List ℕ) → v ≡ Accepted → Recorded (flowAt w) (suc e) tops marks
-      → u ≡ firstBroken (below (rowChecks (flowAt w) (e + 1 - 1) tops marks) (e + 1)) → u ≡ firstBroken (passes card w e)
+      {u : Verdict} (pairs : ℕ) (tops marks : List ℕ) → pairs ≡ suc e → v ≡ Accepted → Recorded (flowAt w) (suc e) tops marks
+      → u ≡ firstBroken (below (rowChecks (flowAt w) (pairs - 1) tops marks) pairs) → u ≡ firstBroken (passes card w e)
   unfolding passes
-  in-second {u} tops marks q r g =
-      second-pass-is (flowAt w) e (e + 1) tops marks u (add-one e) r g
+  in-second {u} pairs tops marks n q r g =
+      second-pass-is (flowAt w) e pairs tops marks u n r g
       ∙ sym (joined-clean (below (firstChecks card w e) (suc e)) (below (secondChecks e (flowAt w)) (suc e)) (sym f ∙ q))
 
 -- ---- a card in bytes
@@ -158,7 +156,7 @@ module _ (bytes w : List ℕ) {k : CardRead} (e : k ≡ cardOf bytes) where
       subst-safely p s = subst (λ (x : Card). Safely x w) p s
 
   pub by-line :
-      {n : ℕ} → k ≡ read.BadLine n
-      → (Refused CardLine (Line n) (slots 0) ≡ judgementOfBytes bytes w) × (Refused CardLine (Line n) (slots 0) ≡ Accepted → SafelyRead bytes w)
+      {n : ℕ} {v : Verdict} → k ≡ read.BadLine n → v ≡ Refused CardLine (Line n) (slots 0)
+      → (v ≡ judgementOfBytes bytes w) × (v ≡ Accepted → SafelyRead bytes w)
   unfolding judgementOfBytes
-  by-line h = (ap (λ (x : CardRead). readJudgement x w) (sym h ∙ e), λ a. absurd (never-accepted a))
+  by-line h q = (q ∙ ap (λ (x : CardRead). readJudgement x w) (sym h ∙ e), λ a. absurd (never-accepted (sym q ∙ a)))

@@ -1,12 +1,13 @@
 -- The first pass: a place from its parts, and one place more. Assumes nothing.
 use mathlib.Core.Path.{_≡_, refl, sym, ap, _∙_, subst}
 use mathlib.Core.List.{List}
-use Prim.Native.Nat.{ℕ, suc, _+_, _≤_, _<_}
+use Prim.Native.Nat.{ℕ, suc, _+_, _*_, _≤_, _<_}
 use native.Mathlib.Omega.{arith}
-use native.Mathlib.Numerals.{add-one}
-use lib.ListN.{length, set, length-set}
+use lib.ListN.{length, getD, set, length-set}
+use Rattle.units.specs.declared.Quadwords.{Quadwords}
 use Rattle.units.specs.declared.Slots.{Slots}
-use Rattle.units.specs.Units.{quadwords}
+use Rattle.units.specs.declared.Words.{Words}
+use Rattle.units.specs.Units.{quadwords, lowAt, highAt, lowWord, wordsIn64, capped}
 use Rattle.checks.specs.declared.Rule.{Rule}
 use Rattle.checks.specs.declared.Place.{Place}
 use Rattle.checks.specs.declared.Verdict.{Verdict}
@@ -15,7 +16,7 @@ use Rattle.checks.specs.Checks.{firstBroken, below}
 use Rattle.checks.proofs.OfChecks.{never-accepted, joined-clean, joined-refused, below-none, below-next, below-found}
 use Rattle.card.specs.declared.Card.{Card}
 use Rattle.control.specs.declared.Control.{Control}
-use Rattle.control.specs.Control.{lowAt, highAt, controlOf, controlAt}
+use Rattle.control.specs.Control.{controlOf, controlAt}
 use Rattle.flow.specs.declared.Flow.{Flow}
 use Rattle.flow.specs.declared.Frames.{Frames}
 use Rattle.flow.specs.Rows.{frames}
@@ -27,9 +28,28 @@ use Rattle.flow.proofs.OfFollow.{held-start, recorded-none, recorded-more}
 use Rattle.judge.specs.declared.stack.Ahead.{Ahead}
 use Rattle.judge.specs.declared.stack.Ahead.the-variants.{Broken, Next}
 use Rattle.judge.specs.Judge.{pairChecks, firstChecks}
-use Rattle.judge.specs.Passing.{Ready, StackFound, Found}
+use Rattle.judge.specs.Passing.{Within, Ready, StackFound, Found}
 
 -- ---- one place
+
+-- where a place of the section stands in the words
+pub record Stands (w : List ℕ) (p at : ℕ) : Type 0 where
+  pub is-low : getD w at 0 ≡ lowAt w p
+  pub is-high : getD w (at + 1) 0 ≡ highAt w p
+  pub in-words : at + 1 < length w
+  pub few : at < 1024
+
+pub stands : (w : List ℕ) (e : ℕ) (p : Quadwords) (at : Words) → at ≡ wordsIn64 (lowWord p) → Within w e (p .0) → Stands w (p .0) (at .0)
+unfolding lowAt highAt
+stands w e p at f k =
+    let b : at .0 ≡ capped (2 * p .0) = ap (λ (x : Words). x .0) f in
+    let exact : at .0 ≡ 2 * p .0 = omega (arith, b, k .in-words .among-512, k .in-section) in
+    record {
+      is-low = ap (λ (n : ℕ). getD w n 0) exact;
+      is-high = ap (λ (n : ℕ). getD w (n + 1) 0) exact;
+      in-words = omega (arith, exact, k .in-words .in-buffer, k .in-section);
+      few = omega (arith, exact, k .in-words .among-512, k .in-section);
+    }
 
 module _ (w : List ℕ) (p : ℕ) {low high : ℕ} {c : Control} (a : low ≡ lowAt w p) (b : high ≡ highAt w p)
     (d : c ≡ controlOf high) where
@@ -94,14 +114,14 @@ module _ (card : Card) (w : List ℕ) (e : ℕ) (tops₀ marks₀ tops marks : L
       (sym (below-found (firstChecks card w e) (suc e) p (omega arith) (g .clean-below) (subst (Found card w e p) q h)), λ x. absurd (never-accepted x))
 
   pub passing-next :
-      {a : Ahead} {f : Frames} → e < length tops₀ → e < length marks₀ → p ≤ e → Found card w e p a → a ≡ Next f
-      → Passing card w e tops₀ marks₀ (set tops p (s .top)) (set marks p (s .marks)) f (p + 1)
-  passing-next {a} {f} m n l h q =
+      {a : Ahead} {f : Frames} {next : ℕ} → e < length tops₀ → e < length marks₀ → p ≤ e → Found card w e p a → a ≡ Next f
+      → next ≡ suc p → Passing card w e tops₀ marks₀ (set tops p (s .top .0)) (set marks p (s .marks)) f next
+  passing-next {a} {f} m n l h q z =
       let k : (firstBroken (firstChecks card w e p) ≡ Accepted) × Held (flowAt w) (suc p) f × (f .depth ≤ card .stack) = subst (Found card w e p) q h in
-      rw add-one
+      rw z
       record {
         within = omega arith;
-        tops-room = length-set tops p (s .top) ∙ g .tops-room;
+        tops-room = length-set tops p (s .top .0) ∙ g .tops-room;
         marks-room = length-set marks p (s .marks) ∙ g .marks-room;
         clean-below = below-next (firstChecks card w e) p (g .clean-below) (k .0);
         ready =
@@ -109,7 +129,7 @@ module _ (card : Card) (w : List ℕ) (e : ℕ) (tops₀ marks₀ tops marks : L
               held = k .1;
               not-deep = k .2;
               recorded =
-                  recorded-more (flowAt w) tops marks p (s .top) (s .marks) (omega (arith, g .tops-room))
+                  recorded-more (flowAt w) tops marks p (s .top .0) (s .marks) (omega (arith, g .tops-room))
                   (omega (arith, g .marks-room)) (g .ready .recorded) (g .ready .held .shape);
             };
       }

@@ -1,38 +1,41 @@
 -- Demand 3: the walk of an accepted pack, along any list of answers, is safe. The flow of control is `flow`'s part; here is what lies at
 -- each place of the section. Assumes nothing.
-use mathlib.Core.Path.{_≡_, refl}
-use mathlib.Core.Bool.{true, false, not}
+use mathlib.Core.Path.{_≡_, refl, sym, ap, _∙_}
+use mathlib.Core.Bool.{true, false}
 use mathlib.Core.List.{List, [], _∷_, _++_, List·Memᴰ, List·Memᴰ·head, List·Memᴰ·tail, List·Memᴰ·not-nil, List·Memᴰ·cases-cons}
 use mathlib.Core.Logic.{_⊎_, inl, inr, ⊎-elim}
-use Prim.Native.Nat.{ℕ, zero, suc, _+_, _-_, _*_, _≤_, _<_, _^_, min}
+use Prim.Native.Nat.{ℕ, zero, suc, _+_, _*_, _/_, _≤_, _<_}
 use native.Mathlib.Omega.{arith}
 use native.Mathlib.Nat.{le-refl, le-step}
 use lib.ListN.{length}
-use borrow.Author.Tests.{ltb-true, leb-true, le-leb, not-false}
-use Rattle.bits.proofs.OfRows.{neither}
+use borrow.Author.Tests.{le-leb}
 use Rattle.units.specs.declared.Quadwords.{Quadwords}
-use Rattle.units.specs.Units.{quadwords, slotsLength, fetchesLength, rangeEnd, isBelow, isAtMost}
+use Rattle.units.specs.declared.Slots.{Slots}
+use Rattle.units.specs.Units.{quadwords, words, lowAt, highAt, slotsLength, fetchesLength}
 use Rattle.checks.specs.declared.Verdict.the-variants.{Accepted}
 use Rattle.checks.specs.Checks.{firstBroken, below}
 use Rattle.checks.proofs.OfChecks.{first-clean, rest-clean, left-clean, right-clean, below-each}
 use Rattle.card.specs.declared.Card.{Card}
-use Rattle.card.specs.Card.{figureTests, Ranges}
+use Rattle.card.specs.Card.{figureTests}
 use Rattle.grants.specs.Grants.{Name, granted}
 use Rattle.fetches.specs.Fetches as fetches
 use Rattle.fetches.proofs.OfClause as of-fetches
 use Rattle.clauses.specs.Clause as alu
 use Rattle.clauses.proofs.OfNames as of-alu
+use Rattle.control.specs.declared.Control.{Control}
+use Rattle.control.specs.declared.Control.the-variants.{NotTaken}
 use Rattle.control.specs.declared.Clause.{Clause}
 use Rattle.control.specs.declared.Clause.the-variants.{NoClause, AluClause, FetchClause}
-use Rattle.control.specs.Control.{lowAt, highAt, controlAt, endOf}
-use Rattle.control.specs.Rules.{outside, badRange, badExport, exportNames}
-use Rattle.control.proofs.OfRules.{length-right, each-export-granted}
+use Rattle.control.specs.Control.{controlAt, endOf}
+use Rattle.control.specs.Rules.{isNotTaken, badRange, badExport, exportNames}
+use Rattle.control.proofs.OfEnd.{ends-at}
+use Rattle.control.proofs.OfRules.{length-right, inside, each-export-granted}
 use Rattle.flow.specs.Pairs.{flowAt}
 use Rattle.flow.specs.Rules.{stackChecks, secondChecks}
 use Rattle.flow.specs.Walk.{State, start, walk, Sound}
 use Rattle.flow.proofs.OfWalk.{clean-passes, walk-sound}
 use Rattle.judge.specs.Judge.{lineChecks, limitsOf, isPushBefore, fetchKind, clauseChecks, pairChecks, firstChecks, passes, checks, judgement}
-use Rattle.judge.specs.Safe.{clauseAt, LiesBehind, namesBelow, namesOfEach, clauseNames, namesAt, Safe, Safely}
+use Rattle.judge.specs.Safe.{clauseAt, LiesBehind, IsFilled, namesBelow, namesOfEach, clauseNames, namesAt, FirstEnd, Safe, Safely}
 
 -- ---- a name in a list of names
 
@@ -53,7 +56,7 @@ module _ {P : Name → Type 0} where
       (in-joined (namesBelow f n) (f n) m)
 
   each-of :
-      (f : ℕ → List Name) (gs : List ℕ) → ((g : ℕ) → List·Memᴰ g gs → (x : Name) → List·Memᴰ x (f g) → P x) → (x : Name)
+      (f : Slots → List Name) (gs : List Slots) → ((g : Slots) → List·Memᴰ g gs → (x : Name) → List·Memᴰ x (f g) → P x) → (x : Name)
       → List·Memᴰ x (namesOfEach f gs) → P x
   unfolding namesOfEach
   each-of f [] h x m = absurd (List·Memᴰ·not-nil m)
@@ -61,37 +64,38 @@ module _ {P : Name → Type 0} where
       ⊎-elim (λ a. h g (List·Memᴰ·head refl) x a) (λ b. each-of f gs (λ k t. h k (List·Memᴰ·tail t)) x b)
       (in-joined (f g) (namesOfEach f gs) m)
 
--- ---- a clause that rule 6 lets through
+-- ---- what rules 4 and 6 let through
 
-module _ (e : ℕ) (quads : Quadwords) (few : quads .0 ≤ 8192) where
-  -- quads is small, so a sum that was cut short is not within it
-  reaches : (s l : Quadwords) → outside (quadwords e) quads s l ≡ false → (e < s .0) × (s .0 + l .0 ≤ quads .0)
-  unfolding outside
-  reaches s l h =
-      let k = neither (not (isBelow (quadwords e) s)) (not (isAtMost (rangeEnd s l) quads)) h in
-      let a = ltb-true e (s .0) (not-false _ (k .0)) in
-      let b : min (s .0 + l .0) (2 ^ 64 - 1) ≤ quads .0 = leb-true _ (quads .0) (not-false _ (k .1)) in
-      (a, omega (arith, b))
+taken-number : (c : Control) → isNotTaken c ≡ false → c ≡ NotTaken → ⊥
+unfolding isNotTaken
+taken-number c h e = true-not-false (sym (ap isNotTaken e) ∙ h)
+  where
+    true-not-false : true ≡ false → ⊥
+    true-not-false q = let z : _≡_ {A = ℕ} 0 1 = cc in omega arith
 
-  pub lies-behind :
-      (words : ℕ) → words ≡ 2 * quads .0 → (k : Clause) → badRange (quadwords e) quads k ≡ false → LiesBehind e words k
-  unfolding badRange
-  lies-behind words q NoClause h = tt
-  lies-behind words q (AluClause s n) h = let r = reaches s (slotsLength n) h in (r .0, omega (arith, r .1))
-  lies-behind words q (FetchClause s n) h =
-      let r = reaches s (fetchesLength n) h in
-      let b : s .0 + min (2 * n .0) (2 ^ 64 - 1) ≤ quads .0 = r .1 in
-      (r .0, omega (arith, b))
+lies-behind :
+    (e : ℕ) (quads : Quadwords) (m : ℕ) → m ≡ 2 * quads .0 → (k : Clause) → badRange (quadwords e) quads k ≡ false
+    → LiesBehind e m k
+unfolding badRange
+lies-behind e quads m q NoClause h = tt
+lies-behind e quads m q (AluClause s n) h =
+    let r = inside (quadwords e) quads s (slotsLength n) h in (r .0, omega (arith, r .1))
+lies-behind e quads m q (FetchClause s n) h =
+    let r = inside (quadwords e) quads s (fetchesLength n) h in (r .0, omega (arith, r .1))
 
 -- ---- a place of the section whose checks are unbroken
 
-module _ (card : Card) (w : List ℕ) (e : ℕ) (few : card .quads .0 ≤ 8192) (whole : length w ≡ 2 * card .quads .0) (p : ℕ)
+module _ (card : Card) (w : List ℕ) (e : ℕ) (whole : length w ≡ 2 * card .quads .0) (p : ℕ)
     (clean : firstBroken (pairChecks card w (quadwords e) (quadwords p) (controlAt w p) (lowAt w p) (highAt w p)) ≡ Accepted)
   where
+    pub place-taken : controlAt w p ≡ NotTaken → ⊥
+    unfolding pairChecks
+    place-taken = taken-number (controlAt w p) (first-clean _ _ clean)
+
     pub place-behind : LiesBehind e (length w) (clauseAt w p)
     unfolding pairChecks
     place-behind =
-        lies-behind e (card .quads) few (length w) whole (clauseAt w p)
+        lies-behind e (card .quads) (length w) whole (clauseAt w p)
         (first-clean _ _ (rest-clean _ _ (rest-clean _ _ clean)))
 
     exports-clean : badExport (controlAt w p) (card .kind) (card .gprs) (lowAt w p) (highAt w p) ≡ false
@@ -103,22 +107,45 @@ module _ (card : Card) (w : List ℕ) (e : ℕ) (few : card .quads .0 ≤ 8192) 
     unfolding pairChecks
     clause-clean = rest-clean _ _ (rest-clean _ _ (rest-clean _ _ (rest-clean _ _ clean)))
 
+    -- the clause that is asked about lies in the buffer
+    alu-inside : (s : Quadwords) (n : Slots) → LiesBehind e (length w) (AluClause s n) → alu.insideBuffer (words (length w)) s n ≡ true
+    unfolding alu.insideBuffer
+    alu-inside s n l = le-leb (s .0 + n .0) (length w / 2) (omega (arith, l .1))
+
+    fetches-inside :
+        (s : Quadwords) (n : Slots) → LiesBehind e (length w) (FetchClause s n) → fetches.insideBuffer (words (length w)) s n ≡ true
+    unfolding fetches.insideBuffer
+    fetches-inside s n l = le-leb (s .0 + 2 * n .0) (length w / 2) (omega (arith, l .1))
+
     in-clause :
         (k : Clause) → LiesBehind e (length w) k
         → firstBroken (clauseChecks card w (quadwords p) (controlAt w p) (lowAt w p) (highAt w p) k) ≡ Accepted → (x : Name)
         → List·Memᴰ x (clauseNames w (controlAt w p) k) → granted (limitsOf card (lowAt w p) (highAt w p)) x ≡ true
-    unfolding clauseNames clauseChecks alu.insideBuffer fetches.insideBuffer
+    unfolding clauseNames clauseChecks
     in-clause NoClause l h = λ x m. absurd (List·Memᴰ·not-nil m)
     in-clause (AluClause s n) l h =
-        each-of (λ g. namesBelow (alu.namedAt w s g) (alu.sizeAt w s (n .0) g)) (alu.groupsOf w (2 * s .0) (n .0))
+        each-of (λ g. namesBelow (alu.namedAt w s g) (alu.sizeAt w s n g)) (alu.groupsOf w s n)
         (λ g t.
-        each-below (alu.namedAt w s g) (alu.sizeAt w s (n .0) g)
+        each-below (alu.namedAt w s g) (alu.sizeAt w s n g)
         (of-alu.accepted-granted (card .kind) (isPushBefore (controlAt w p)) (limitsOf card (lowAt w p) (highAt w p)) w (quadwords p) s n
-        (le-leb (2 * s .0 + 2 * n .0) (length w) (omega (arith, l .1))) h g t))
+        (alu-inside s n l) h g t))
     in-clause (FetchClause s n) l h =
         each-below (fetches.namedAt (fetchKind (controlAt w p)) w s) (n .0)
         (of-fetches.accepted-granted (fetchKind (controlAt w p)) (limitsOf card (lowAt w p) (highAt w p)) w (quadwords p) s n
-        (le-leb (2 * s .0 + 4 * n .0) (length w) (omega (arith, l .1))) h)
+        (fetches-inside s n l) h)
+
+    filled :
+        (k : Clause) → LiesBehind e (length w) k
+        → firstBroken (clauseChecks card w (quadwords p) (controlAt w p) (lowAt w p) (highAt w p) k) ≡ Accepted → IsFilled w k
+    unfolding clauseChecks
+    filled NoClause l h = tt
+    filled (AluClause s n) l h =
+        of-alu.accepted-filled (card .kind) (isPushBefore (controlAt w p)) (limitsOf card (lowAt w p) (highAt w p)) w (quadwords p) s n
+        (alu-inside s n l) h
+    filled (FetchClause s n) l h = tt
+
+    pub place-filled : IsFilled w (clauseAt w p)
+    place-filled = filled (clauseAt w p) place-behind clause-clean
 
     pub place-granted : (x : Name) → List·Memᴰ x (namesAt w p) → granted (limitsOf card (lowAt w p) (highAt w p)) x ≡ true
     unfolding namesAt
@@ -133,6 +160,7 @@ module _ (card : Card) (w : List ℕ) (e : ℕ) (few : card .quads .0 ≤ 8192) 
 -- what an accepted pack's checks say
 record Judged (card : Card) (w : List ℕ) : Type 0 where
   whole : length w ≡ 2 * card .quads .0
+  end : FirstEnd w (endOf w)
   first : (p : ℕ) → p ≤ endOf w → firstBroken (firstChecks card w (endOf w) p) ≡ Accepted
   second : firstBroken (below (secondChecks (endOf w) (flowAt w)) (suc (endOf w))) ≡ Accepted
 
@@ -144,13 +172,15 @@ judged card w h =
     let e : ℕ = endOf w in
     record {
       whole = length-right w (card .quads) (first-clean _ _ rest);
+      end =
+          let z = ends-at w (first-clean _ _ (rest-clean _ _ rest)) in record { is-end = z .is-end; none-earlier = z .is-first };
       first =
           λ p l.
           below-each (firstChecks card w e) (suc e) p (left-clean (below (firstChecks card w e) (suc e)) _ both) (omega arith);
       second = right-clean (below (firstChecks card w e) (suc e)) _ both;
     }
 
-module _ (card : Card) (w : List ℕ) (ranges : Ranges card) (j : Judged card w) where
+module _ (card : Card) (w : List ℕ) (j : Judged card w) where
   pair-clean :
       (p : ℕ) → p ≤ endOf w
       → firstBroken (pairChecks card w (quadwords (endOf w)) (quadwords p) (controlAt w p) (lowAt w p) (highAt w p)) ≡ Accepted
@@ -168,9 +198,12 @@ module _ (card : Card) (w : List ℕ) (ranges : Ranges card) (j : Judged card w)
   safe-at s k =
       record {
         no-fault = k .no-fault;
+        has-end = j .end;
         inside = k .inside;
-        clause-behind = place-behind card w (endOf w) (ranges .quads-most) (j .whole) (s .at) (pair-clean (s .at) (k .inside));
-        all-granted = place-granted card w (endOf w) (ranges .quads-most) (j .whole) (s .at) (pair-clean (s .at) (k .inside));
+        number-taken = place-taken card w (endOf w) (j .whole) (s .at) (pair-clean (s .at) (k .inside));
+        clause-behind = place-behind card w (endOf w) (j .whole) (s .at) (pair-clean (s .at) (k .inside));
+        clause-filled = place-filled card w (endOf w) (j .whole) (s .at) (pair-clean (s .at) (k .inside));
+        all-granted = place-granted card w (endOf w) (j .whole) (s .at) (pair-clean (s .at) (k .inside));
         not-deep = k .not-deep;
         goes-on = k .goes-on;
         halted-empty = k .halted-empty;
@@ -182,5 +215,5 @@ module _ (card : Card) (w : List ℕ) (ranges : Ranges card) (j : Judged card w)
       (walk-sound (card .stack) (endOf w) (flowAt w) (clean-passes (card .stack) (endOf w) (flowAt w) stack-clean (j .second)) answers)
 
 -- an accepted pack's walk is safe
-pub accepted-safely : (card : Card) (w : List ℕ) → Ranges card → judgement card w ≡ Accepted → Safely card w
-accepted-safely card w r h = safely card w r (judged card w h)
+pub accepted-safely : (card : Card) (w : List ℕ) → judgement card w ≡ Accepted → Safely card w
+accepted-safely card w h = safely card w (judged card w h)

@@ -2,8 +2,11 @@
 use mathlib.Core.Path.{_≡_, sym, subst}
 use mathlib.Core.List.{List}
 use mathlib.Core.Logic.{_⊎_, inl, inr}
-use Prim.Native.Nat.{ℕ, suc, _+_}
-use Rattle.units.specs.Units.{quadwords, slots}
+use Prim.Native.Nat.{ℕ, suc, _<_}
+use native.Mathlib.Omega.{arith}
+use Rattle.units.specs.declared.Quadwords.{Quadwords}
+use Rattle.units.specs.Units.{quadwords, slots, quadwordBehind, quadwordsIn64}
+use Rattle.units.proofs.OfUnits.{behind-exact}
 use Rattle.checks.specs.declared.Rule.the-variants.{StackFrames, StackAtEnd}
 use Rattle.checks.specs.declared.Place.the-variants.{Quadword}
 use Rattle.flow.specs.declared.Flow.{Flow}
@@ -18,9 +21,10 @@ use Rattle.judge.specs.declared.stack.Ahead.the-variants.{Broken, Next}
 use Rattle.judge.specs.Passing.{Ready, StackFound}
 
 module _ (w : List ℕ) (limit e p : ℕ) (s : Frames) (tops marks : List ℕ) {flow : Flow} (here : flow ≡ flowAt w p)
-    (ready : Ready (flowAt w) limit p s tops marks) {m : Moved} (g : m ≡ followed limit flow (p + 1) s tops marks) where
+    (ready : Ready (flowAt w) limit p s tops marks) (few : p < 512) {behind : Quadwords}
+    (next : behind ≡ quadwordsIn64 (quadwordBehind (quadwords p))) {m : Moved} (g : m ≡ followed limit flow (behind .0) s tops marks) where
   step : m ≡ followed limit (flowAt w p) (suc p) s tops marks
-  step = at-place limit (flowAt w) p s tops marks flow m here g
+  step = at-place limit (flowAt w) p s tops marks behind flow m (behind-exact (quadwords p) behind next (omega arith)) here g
 
   refused :
       {a : Ahead} → (m ≡ Lacks) ⊎ (m ≡ TooDeep) → a ≡ Broken StackFrames (Quadword (quadwords p)) (slots 0)

@@ -4,7 +4,7 @@ use Prim.Native.Nat.{ℕ, suc}
 use mathlib.Core.Bool.{Bool, true, false, not}
 use mathlib.Core.List.{List, [], _∷_, _++_}
 use Rattle.units.specs.declared.Quadwords.{Quadwords}
-use Rattle.units.specs.Units.{quadwords, slots}
+use Rattle.units.specs.Units.{quadwords, slots, lowAt, highAt}
 use Rattle.bits.specs.Fields.{fieldOf}
 use Rattle.checks.specs.declared.Rule.the-variants.{CardLine, PackLength, NoEnd, CfNumber, CfField, ClauseRange, ExportField}
 use Rattle.checks.specs.declared.Place.the-variants.{Whole, Line, Quadword}
@@ -24,7 +24,7 @@ use Rattle.control.specs.declared.Control.{Control}
 use Rattle.control.specs.declared.Control.the-variants as control
 use Rattle.control.specs.declared.Clause.{Clause}
 use Rattle.control.specs.declared.Clause.the-variants.{NoClause, AluClause, FetchClause}
-use Rattle.control.specs.Control.{lowAt, highAt, controlAt, endOf}
+use Rattle.control.specs.Control.{controlAt, endOf}
 use Rattle.control.specs.Rules.{badLength, noEnd, isNotTaken, badField, clauseOf, badRange, badExport}
 use Rattle.flow.specs.Pairs.{flowAt}
 use Rattle.flow.specs.Rules.{stackChecks, secondChecks}

@@ -1,8 +1,9 @@
 -- What the parts of the first pass hand on: the stack before a place, the rows of the places before it, and what was found there.
-use Prim.Native.Nat.{ℕ, suc, _+_, _*_, _≤_, _<_}
+use Prim.Native.Nat.{ℕ, suc, _≤_, _<_}
 use mathlib.Core.Path.{_≡_}
 use mathlib.Core.List.{List}
 use lib.ListN.{length}
+use Rattle.units.specs.Units.{quadwords, highWord}
 use Rattle.checks.specs.declared.Verdict.the-variants.{Accepted, Refused}
 use Rattle.checks.specs.Checks.{firstBroken}
 use Rattle.card.specs.declared.Card.{Card}
@@ -17,7 +18,7 @@ use Rattle.judge.specs.Judge.{firstChecks}
 
 -- a section that ends at e lies in the words and is no longer than sections can be
 pub record InWords (w : List ℕ) (e : ℕ) : Type 0 where
-  pub in-buffer : 2 * e + 1 < length w
+  pub in-buffer : highWord (quadwords e) .0 < length w
   pub among-512 : e < 512
 
 -- and the rows have room for it

@@ -1,9 +1,11 @@
 -- Demand 3: what holds of document 01's walk of an accepted pack, after any list of answers.
-use Prim.Native.Nat.{ℕ, zero, suc, _+_, _*_, _≤_, _<_}
+use Prim.Native.Nat.{ℕ, zero, suc, _≤_, _<_}
 use mathlib.Core.Path.{_≡_}
 use mathlib.Core.Bool.{Bool, true, false}
 use mathlib.Core.List.{List, [], _∷_, _++_, List·Memᴰ}
 use lib.ListN.{length}
+use Rattle.units.specs.declared.Slots.{Slots}
+use Rattle.units.specs.Units.{slots, lowAt, highAt, wordsOf, rangeEnd, slotsLength, fetchesLength}
 use Rattle.card.specs.declared.Card.{Card}
 use Rattle.card.specs.declared.CardRead.the-variants.{Whole}
 use Rattle.card.specs.Card.{cardOf}
@@ -11,9 +13,10 @@ use Rattle.grants.specs.Grants.{Name, granted}
 use Rattle.fetches.specs.Fetches as fetches
 use Rattle.clauses.specs.Clause as alu
 use Rattle.control.specs.declared.Control.{Control}
+use Rattle.control.specs.declared.Control.the-variants.{NotTaken}
 use Rattle.control.specs.declared.Clause.{Clause}
 use Rattle.control.specs.declared.Clause.the-variants.{NoClause, AluClause, FetchClause}
-use Rattle.control.specs.Control.{lowAt, highAt, controlAt, endOf}
+use Rattle.control.specs.Control.{controlAt, isEnd, endOf}
 use Rattle.control.specs.Rules.{clauseOf, exportNames}
 use Rattle.flow.specs.Pairs.{flowAt}
 use Rattle.flow.specs.Walk.{State, start, step, walk}
@@ -25,26 +28,31 @@ use Rattle.judge.specs.Judge.{limitsOf, fetchKind}
 abbrev pub clauseAt : List ℕ → ℕ → Clause
 clauseAt w p = clauseOf (controlAt w p) (lowAt w p) (highAt w p)
 
--- a clause lies wholly behind the section, which ends at e, and inside a buffer of so many words
+-- a clause lies wholly behind the section, which ends at e, and inside a buffer of m words
 abbrev pub LiesBehind : ℕ → ℕ → Clause → Type 0
-LiesBehind e words NoClause = Unit {0}
-LiesBehind e words (AluClause s n) = (e < s .0) × (2 * (s .0 + n .0) ≤ words)
-LiesBehind e words (FetchClause s n) = (e < s .0) × (2 * (s .0 + 2 * n .0) ≤ words)
+LiesBehind e m NoClause = Unit {0}
+LiesBehind e m (AluClause s n) = (e < s .0) × (wordsOf (rangeEnd s (slotsLength n)) .0 ≤ m)
+LiesBehind e m (FetchClause s n) = (e < s .0) × (wordsOf (rangeEnd s (fetchesLength n)) .0 ≤ m)
+
+-- the groups of an ALU clause fill it exactly, from its first slot to its last: there is no instruction in it but theirs
+abbrev pub IsFilled : List ℕ → Clause → Type 0
+IsFilled w NoClause = Unit {0}
+IsFilled w (AluClause s n) = alu.Fills w s n (slots 0) (alu.groupsOf w s n)
+IsFilled w (FetchClause s n) = Unit {0}
 
 -- the names below n, and those of a list of groups
 unfoldable pub namesBelow : (ℕ → List Name) → ℕ → List Name
 namesBelow f zero = []
 namesBelow f (suc n) = namesBelow f n ++ f n
 
-unfoldable pub namesOfEach : (ℕ → List Name) → List ℕ → List Name
+unfoldable pub namesOfEach : (Slots → List Name) → List Slots → List Name
 namesOfEach f [] = []
 namesOfEach f (g ∷ gs) = f g ++ namesOfEach f gs
 
 -- every register and constant directly named in a clause: by each instruction of each group, by each fetch
 unfoldable pub clauseNames : List ℕ → Control → Clause → List Name
 clauseNames w c NoClause = []
-clauseNames w c (AluClause s n) =
-    namesOfEach (λ g. namesBelow (alu.namedAt w s g) (alu.sizeAt w s (n .0) g)) (alu.groupsOf w (2 * s .0) (n .0))
+clauseNames w c (AluClause s n) = namesOfEach (λ g. namesBelow (alu.namedAt w s g) (alu.sizeAt w s n g)) (alu.groupsOf w s n)
 clauseNames w c (FetchClause s n) = namesBelow (fetches.namedAt (fetchKind c) w s) (n .0)
 
 -- by the pair at p itself (exports) or in its clause
@@ -53,19 +61,30 @@ namesAt w p = exportNames (controlAt w p) (lowAt w p) (highAt w p) ++ clauseName
 
 -- ---- the claim
 
+-- the end: the first pair with bit 29 clear and bit 21 set
+pub record FirstEnd (w : List ℕ) (e : ℕ) : Type 0 where
+  pub is-end : isEnd (highAt w e) ≡ true
+  pub none-earlier : (p : ℕ) → p < e → isEnd (highAt w p) ≡ false
+
 pub record Safe (card : Card) (w : List ℕ) (s : State) : Type 0 where
   -- no step has lacked a frame or stood outside the section
   pub no-fault : s .fault ≡ false
+  -- the section runs from quadword 0 to the end, which it has
+  pub has-end : FirstEnd w (endOf w)
   -- the place is inside the section
   pub inside : s .at ≤ endOf w
+  -- the pair there has a number that is taken
+  pub number-taken : controlAt w (s .at) ≡ NotTaken → ⊥
   -- the clause opened there lies wholly behind the section and inside the buffer
   pub clause-behind : LiesBehind (endOf w) (length w) (clauseAt w (s .at))
+  -- the groups of an ALU clause are all that stands in it
+  pub clause-filled : IsFilled w (clauseAt w (s .at))
   -- every register and constant directly named there or in the clause is granted
   pub all-granted :
       (x : Name) → List·Memᴰ x (namesAt w (s .at)) → granted (limitsOf card (lowAt w (s .at)) (highAt w (s .at))) x ≡ true
   -- the stack is at most the card's number
   pub not-deep : length (s .stack) ≤ card .stack
-  -- until the walk has halted, either answer leads to a next instruction inside the section
+  -- until the walk has halted, which it has at the end, either answer leads to a next instruction inside the section
   pub goes-on :
       (s .at ≡ endOf w → ⊥) → (a : Bool) → (step (endOf w) (flowAt w) s a .fault ≡ false) × (step (endOf w) (flowAt w) s a .at ≤ endOf w)
   -- if it has halted the stack is empty

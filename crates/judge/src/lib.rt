@@ -14,7 +14,6 @@ use units::Slots;
 ghost use mathlib.Core.Path.{_≡_};
 ghost use Prim.Native.Nat.{suc};
 ghost use Rattle.checks.specs.Checks.{firstBroken, below};
-ghost use Rattle.checks.specs.declared.Place.the-variants.{Whole};
 ghost use Rattle.checks.specs.declared.Verdict.the-variants.{Accepted, Refused};
 ghost use Rattle.units.specs.Units as counts;
 ghost use Rattle.flow.specs.Held.{Recorded};
@@ -35,21 +34,17 @@ pub fn judge(card: Card, words: &[u32]) -> Verdict
 {
     let test = card::check_card(card);
     if let CardTest::BadLine(n) = test {
-        return Verdict::Refused {
-            rule: Rule::CardLine,
-            place: Place::Line(n),
-            slot: Slots(0),
-        };
+        return refused(Rule::CardLine, Place::Line(n));
     }
     if control::is_bad_length(words, card.quads) {
-        return refused_whole(Rule::PackLength);
+        return refused(Rule::PackLength, Place::Whole);
     }
     let searched = control::searched_pairs(words);
     let end = control::find_end(words);
     if units::is_at_most(searched, end) {
-        return refused_whole(Rule::NoEnd);
+        return refused(Rule::NoEnd, Place::Whole);
     }
-    both_passes(card, words, end.0)
+    both_passes(card, words, end)
 }
 
 // The same of a card in bytes. What stands behind its seventh line is not looked at.
@@ -60,30 +55,24 @@ pub fn judge_bytes(bytes: &[u8], words: &[u32]) -> Verdict
     let read = card::read_card(bytes);
     match read {
         CardRead::Whole(card, _) => judge(card, words),
-        CardRead::BadLine(n) => Verdict::Refused {
-            rule: Rule::CardLine,
-            place: Place::Line(n),
-            slot: Slots(0),
-        },
+        CardRead::BadLine(n) => refused(Rule::CardLine, Place::Line(n)),
     }
 }
 
-fn refused_whole(rule: Rule) -> Verdict
-    ensures { λ r. ⌜ r ≡ Refused rule Whole (counts.slots 0) ⌝ }
+// A refusal that no slot belongs to.
+pub(crate) fn refused(rule: Rule, place: Place) -> Verdict
+    ensures { λ r. ⌜ r ≡ Refused rule place (counts.slots 0) ⌝ }
 {
-    Verdict::Refused {
-        rule,
-        place: Place::Whole,
-        slot: Slots(0),
-    }
+    let slot = Slots(0);
+    Verdict::Refused { rule, place, slot }
 }
 
 // The section ends at pair `e`. Most sections are short, and rows for a long one would cost more than judging them.
-fn both_passes(card: Card, words: &[u32], e: usize) -> Verdict
-    requires { ⌜ InWords (now words) e ⌝ }
-    ensures { λ r. ⌜ r ≡ firstBroken (passes card (now (words .entry)) e) ⌝ }
+fn both_passes(card: Card, words: &[u32], e: Quadwords) -> Verdict
+    requires { ⌜ InWords (now words) (e .0) ⌝ }
+    ensures { λ r. ⌜ r ≡ firstBroken (passes card (now (words .entry)) (e .0)) ⌝ }
 {
-    if e < 32 {
+    if units::is_below(e, Quadwords(32)) {
         let mut tops = [0usize; 32];
         let mut marks = [0usize; 32];
         return passes_with(card, words, e, &mut tops, &mut marks);
@@ -97,17 +86,18 @@ fn both_passes(card: Card, words: &[u32], e: usize) -> Verdict
 fn passes_with(
     card: Card,
     words: &[u32],
-    e: usize,
+    e: Quadwords,
     tops: &mut [usize],
     marks: &mut [usize],
 ) -> Verdict
-    requires { ⌜ Section (now words) e (now tops) (now marks) ⌝ }
-    ensures { λ r. ⌜ r ≡ firstBroken (passes card (now (words .entry)) e) ⌝ }
+    requires { ⌜ Section (now words) (e .0) (now tops) (now marks) ⌝ }
+    ensures { λ r. ⌜ r ≡ firstBroken (passes card (now (words .entry)) (e .0)) ⌝ }
 {
+    let pairs = units::quadword_behind(e);
     let first = first_pass(card, words, e, &mut tops[..], &mut marks[..]);
     match first {
         Verdict::Refused { rule, place, slot } => Verdict::Refused { rule, place, slot },
-        Verdict::Accepted => flow::second_pass(words, e + 1, &tops[..], &marks[..]),
+        Verdict::Accepted => flow::second_pass(words, pairs, &tops[..], &marks[..]),
     }
 }
 
@@ -115,24 +105,25 @@ fn passes_with(
 fn first_pass(
     card: Card,
     words: &[u32],
-    e: usize,
+    e: Quadwords,
     tops: &mut [usize],
     marks: &mut [usize],
 ) -> Verdict
-    requires { ⌜ Section (now words) e (now tops) (now marks) ⌝ }
-    ensures { λ r. ⌜ r ≡ firstBroken (below (firstChecks card (now (words .entry)) e) (suc e)) ⌝ }
-    ensures { λ r. ⌜ (r ≡ Accepted → Recorded (flowAt (now (words .entry))) (suc e) (now (tops .exit)) (now (marks .exit))) ⌝ }
+    requires { ⌜ Section (now words) (e .0) (now tops) (now marks) ⌝ }
+    ensures { λ r. ⌜ r ≡ firstBroken (below (firstChecks card (now (words .entry)) (e .0)) (suc (e .0))) ⌝ }
+    ensures { λ r. ⌜ (r ≡ Accepted → Recorded (flowAt (now (words .entry))) (suc (e .0)) (now (tops .exit)) (now (marks .exit))) ⌝ }
 {
     let mut s = Frames {
-        top: 0,
+        top: Quadwords(0),
         marks: 0,
         depth: 0,
     };
-    let mut p = 0;
-    while p <= e {
+    let mut p = Quadwords(0);
+    while units::is_at_most(p, e) {
         let ahead = first_at(card, words, e, p, s, &tops[..], &marks[..]);
-        tops[p] = s.top;
-        marks[p] = s.marks;
+        let row = p.0;
+        tops[row] = s.top.0;
+        marks[row] = s.marks;
         match ahead {
             Ahead::Broken { rule, place, slot } => {
                 return Verdict::Refused { rule, place, slot };
@@ -141,7 +132,7 @@ fn first_pass(
                 s = f;
             }
         }
-        p += 1;
+        p = units::quadword_behind(p);
     }
     Verdict::Accepted
 }
@@ -150,20 +141,21 @@ fn first_pass(
 fn first_at(
     card: Card,
     words: &[u32],
-    e: usize,
-    p: usize,
+    e: Quadwords,
+    p: Quadwords,
     s: Frames,
     tops: &[usize],
     marks: &[usize],
 ) -> Ahead
-    requires { ⌜ Within (now words) e p ⌝ }
-    requires { ⌜ Ready (flowAt (now words)) (card .stack) p s (now tops) (now marks) ⌝ }
-    ensures { λ r. ⌜ Found card (now (words .entry)) e p r ⌝ }
+    requires { ⌜ Within (now words) (e .0) (p .0) ⌝ }
+    requires { ⌜ Ready (flowAt (now words)) (card .stack) (p .0) s (now tops) (now marks) ⌝ }
+    ensures { λ r. ⌜ Found card (now (words .entry)) (e .0) (p .0) r ⌝ }
 {
-    let low = words[2 * p];
-    let high = words[2 * p + 1];
+    let at = units::low_word(p).0;
+    let low = words[at];
+    let high = words[at + 1];
     let control = control::control_of(high);
-    let verdict = pairs::pair_verdict(card, words, Quadwords(e), Quadwords(p), control, low, high);
+    let verdict = pairs::pair_verdict(card, words, e, p, control, low, high);
     match verdict {
         Verdict::Refused { rule, place, slot } => Ahead::Broken { rule, place, slot },
         Verdict::Accepted => {

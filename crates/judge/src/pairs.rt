@@ -1,4 +1,5 @@
 // Rules 4 to 15 at one pair, by what it is and by its words.
+use crate::refused;
 use card::Card;
 use checks::Place;
 use checks::Rule;
@@ -8,11 +9,7 @@ use control::Control;
 use fetches::FetchKind;
 use grants::Limits;
 use units::Quadwords;
-use units::Slots;
 ghost use mathlib.Core.Path.{_≡_};
-ghost use Rattle.units.specs.Units as counts;
-ghost use Rattle.checks.specs.declared.Place.the-variants.{Quadword};
-ghost use Rattle.checks.specs.declared.Verdict.the-variants.{Refused};
 ghost use Rattle.checks.specs.Checks.{firstBroken};
 ghost use Rattle.judge.specs.Judge as order;
 
@@ -29,30 +26,20 @@ pub fn pair_verdict(
     ensures { λ r. ⌜ r ≡ firstBroken (order.pairChecks card (now (words .entry)) end place control low high) ⌝ }
 {
     if control::is_not_taken(control) {
-        return refused(Rule::CfNumber, place);
+        return refused(Rule::CfNumber, Place::Quadword(place));
     }
     if control::is_bad_field(control, high) {
-        return refused(Rule::CfField, place);
+        return refused(Rule::CfField, Place::Quadword(place));
     }
     let clause = control::clause_of(control, low, high);
     if control::is_bad_range(end, card.quads, clause) {
-        return refused(Rule::ClauseRange, place);
+        return refused(Rule::ClauseRange, Place::Quadword(place));
     }
     let kind = card.kind;
     if control::is_bad_export(control, kind, card.gprs, low, high) {
-        return refused(Rule::ExportField, place);
+        return refused(Rule::ExportField, Place::Quadword(place));
     }
     clause_verdict(card, words, place, control, low, high, clause)
-}
-
-fn refused(rule: Rule, place: Quadwords) -> Verdict
-    ensures { λ r. ⌜ r ≡ Refused rule (Quadword place) (counts.slots 0) ⌝ }
-{
-    Verdict::Refused {
-        rule,
-        place: Place::Quadword(place),
-        slot: Slots(0),
-    }
 }
 
 // Rules 8 to 15.

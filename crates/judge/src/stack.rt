@@ -29,23 +29,23 @@ pub(crate) fn stack_at(
     words: &[u32],
     flow: Flow,
     limit: usize,
-    e: usize,
-    p: usize,
+    e: Quadwords,
+    p: Quadwords,
     s: Frames,
     tops: &[usize],
     marks: &[usize],
 ) -> Ahead
-    requires { ⌜ flow ≡ flowAt (now words) p ⌝ }
-    requires { ⌜ Ready (flowAt (now words)) limit p s (now tops) (now marks) ⌝ }
-    requires { ⌜ p < 512 ⌝ }
-    ensures { λ r. ⌜ StackFound limit e (flowAt (now (words .entry))) p r ⌝ }
+    requires { ⌜ flow ≡ flowAt (now words) (p .0) ⌝ }
+    requires { ⌜ Ready (flowAt (now words)) limit (p .0) s (now tops) (now marks) ⌝ }
+    requires { ⌜ p .0 < 512 ⌝ }
+    ensures { λ r. ⌜ StackFound limit (e .0) (flowAt (now (words .entry))) (p .0) r ⌝ }
 {
-    let moved = flow::follow(flow, p + 1, limit, s, tops, marks);
+    let moved = flow::follow(flow, units::quadword_behind(p), limit, s, tops, marks);
     match moved {
         Moved::Lacks => broken(Rule::StackFrames, p),
         Moved::TooDeep => broken(Rule::StackFrames, p),
         Moved::To(f) => {
-            if p != e {
+            if p.0 != e.0 {
                 return Ahead::Next(f);
             }
             if s.depth != 0 {
@@ -56,12 +56,12 @@ pub(crate) fn stack_at(
     }
 }
 
-fn broken(rule: Rule, p: usize) -> Ahead
-    ensures { λ r. ⌜ r ≡ ahead.Broken rule (places.Quadword (counts.quadwords p)) (counts.slots 0) ⌝ }
+fn broken(rule: Rule, p: Quadwords) -> Ahead
+    ensures { λ r. ⌜ r ≡ ahead.Broken rule (places.Quadword p) (counts.slots 0) ⌝ }
 {
     Ahead::Broken {
         rule,
-        place: Place::Quadword(Quadwords(p)),
+        place: Place::Quadword(p),
         slot: Slots(0),
     }
 }

@@ -15,8 +15,8 @@ fn input_room() -> [u8; 65610]
 }
 
 // Writes the report on an input.
-fn answer(input: &[u8], words: &mut [u32], report: &mut [u8]) {
-    let written = pack::report_input(input, words, report);
+fn answer(input: &[u8], report: &mut [u8]) {
+    let written = pack::report_input(input, report);
     match written {
         Written::Length(n) => {
             io::write_all(STDOUT_FILENO, &report[..n]);
@@ -28,8 +28,7 @@ fn answer(input: &[u8], words: &mut [u32], report: &mut [u8]) {
 fn main() {
     let mut bytes = input_room();
     let n = io::read_full(STDIN_FILENO, &mut bytes);
-    // Room for the longest pack, and for the longest report.
-    let mut words = [0u32; 16384];
+    // Room for the longest report.
     let mut report = [0u8; 111];
-    answer(&bytes[..n], &mut words, &mut report);
+    answer(&bytes[..n], &mut report);
 }

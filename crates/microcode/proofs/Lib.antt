@@ -2,4 +2,6 @@
 pub mod OfPair
 pub mod OfCodec
 pub mod RoundTrip
+pub mod OfNumbers
+pub mod OfPromises
 pub mod Examples

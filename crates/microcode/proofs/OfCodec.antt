@@ -1,13 +1,15 @@
--- Decoding and encoding at a start, by what the code tests; and two words written through the part of a slice from a start on are two
--- words of the slice. Assumes nothing.
-use mathlib.Core.Path.{_≡_, sym, ap, ap₂, _∙_, subst}
-use mathlib.Core.Bool.{Bool, true, false, not}
+-- Decoding and encoding at a start, by what the code tests; and what is put into the part of a buffer from a start on is put into the
+-- buffer at the start. Assumes nothing.
+use mathlib.Core.Path.{_≡_, refl, sym, ap, ap₂, _∙_, subst}
+use mathlib.Core.Bool.{Bool, true, false, not, cond}
 use mathlib.Core.List.{List, _++_, append-nil}
 use Prim.Native.Nat.{ℕ, _+_, _-_, _≤_, _<_}
 use native.Mathlib.Nat.{le-refl, le-of-eq, le-add-right, add-zero}
+use native.Mathlib.Omega.{arith}
+use lib.Dec.{leb}
 use lib.ListN.{length, getD, take, drop, set, take-append-drop, length-drop, drop-of-length-le}
 use lib.Seq.{take-all, take-set-le, drop-set-add}
-use borrow.Author.Tests.{le-leb, lt-leb, not-true, not-false}
+use borrow.Author.Tests.{le-leb, lt-leb, leb-true, leb-false, not-true, not-false}
 use borrow.Rule.Slice.PartMut.{putMid}
 use Rattle.units.specs.declared.Words.{Words}
 use Rattle.checks.specs.declared.Rule.the-variants.{PackLength, EncodeRoom, EncodeRecord}
@@ -41,14 +43,15 @@ decode-pair s t l start d h e p =
 
 -- ---- encoding
 
-module _ (lo hi : ℕ) (l : List ℕ) (start : ℕ) where
-  pub put-short : length l < start + 2 → (encoded.Refused EncodeRoom ≡ putAnswer l start) × (l ≡ putWords lo hi l start)
+-- two words at the beginning of a part
+module _ (lo hi : ℕ) (l : List ℕ) where
+  pub put-short : length l < 2 → (encoded.Refused EncodeRoom ≡ putAnswer l 0) × (l ≡ putWords lo hi l 0)
   unfolding putAnswer putWords
-  put-short h = (rw (cramped l start h), rw (cramped l start h))
+  put-short h = (rw (cramped l 0 h), rw (cramped l 0 h))
 
-  pub put-done : (m : List ℕ) → start + 2 ≤ length l → m ≡ set (set l start lo) (start + 1) hi → (encoded.Done ≡ putAnswer l start) × (m ≡ putWords lo hi l start)
+  pub put-done : (m : List ℕ) → 2 ≤ length l → m ≡ set (set l 0 lo) 1 hi → (encoded.Done ≡ putAnswer l 0) × (m ≡ putWords lo hi l 0)
   unfolding putAnswer putWords
-  put-done m h e = (rw (roomy l start h), rw (roomy l start h) e)
+  put-done m h e = (rw (roomy l 0 h), rw (roomy l 0 h) e)
 
 -- stores behind a are stores in what lies from a on
 set-behind : (a j v : ℕ) (l : List ℕ) → set l (a + j) v ≡ take a l ++ set (drop a l) j v
@@ -56,24 +59,68 @@ set-behind a j v l =
     sym (take-append-drop a (set l (a + j) v))
     ∙ ap₂ (λ (x y : List ℕ). x ++ y) (take-set-le a l (a + j) v (le-add-right a j)) (drop-set-add a l j v)
 
--- the part from a on, with two words at its beginning, put back
-pub two-words : (a lo hi : ℕ) (l : List ℕ) → putMid a (length l - a) l (set (set (take (length l - a) (drop a l)) 0 lo) 1 hi) ≡ set (set l a lo) (a + 1) hi
+two-words : (a lo hi : ℕ) (l : List ℕ) → take a l ++ set (set (drop a l) 0 lo) 1 hi ≡ set (set l a lo) (a + 1) hi
 two-words a lo hi l =
-    let short : length (drop a l) ≤ length l - a = le-of-eq (length-drop a l) in
-    ap₂ (λ (x y : List ℕ). take a l ++ (set (set x 0 lo) 1 hi ++ y)) (take-all (length l - a) (drop a l) short) (drop-of-length-le (drop a l) short)
-    ∙ ap (λ (x : List ℕ). take a l ++ x) (append-nil (set (set (drop a l) 0 lo) 1 hi))
-    ∙ sym
+    sym
     (set-behind a 1 hi (set l a lo)
     ∙ ap₂ (λ (x y : List ℕ). x ++ set y 1 hi) (take-set-le a l a lo (le-refl a))
     (subst (λ (k : ℕ). drop a (set l k lo) ≡ set (drop a l) 0 lo) (add-zero a) (drop-set-add a l 0 lo)))
+
+-- the part of a buffer from a on, as it is lent on and as it comes back
+module _ (a : ℕ) (l : List ℕ) where
+  lent-part : take (length l - a) (drop a l) ≡ drop a l
+  lent-part = take-all (length l - a) (drop a l) (le-of-eq (length-drop a l))
+
+  back-again : (p : List ℕ) → putMid a (length l - a) l p ≡ take a l ++ p
+  back-again p =
+      ap (λ (y : List ℕ). take a l ++ (p ++ y)) (drop-of-length-le (drop a l) (le-of-eq (length-drop a l)))
+      ∙ ap (λ (x : List ℕ). take a l ++ x) (append-nil p)
+
+module _ (a : ℕ) (l : List ℕ) (h : a ≤ length l) where
+  part-room : room (drop a l) 0 ≡ room l a
+  unfolding room
+  part-room = by (leb (a + 2) (length l)) refl
+    where
+      long : length (drop a l) ≡ length l - a
+      long = length-drop a l
+
+      by : (t : Bool) → leb (a + 2) (length l) ≡ t → leb 2 (length (drop a l)) ≡ leb (a + 2) (length l)
+      by true e = let k = leb-true (a + 2) (length l) e in le-leb 2 (length (drop a l)) (omega (arith, long)) ∙ sym e
+      by false e = let k = leb-false (a + 2) (length l) e in lt-leb 2 (length (drop a l)) (omega (arith, long)) ∙ sym e
+
+  part-answer : putAnswer (drop a l) 0 ≡ putAnswer l a
+  unfolding putAnswer
+  part-answer = rw part-room
+
+  part-words : (lo hi : ℕ) → take a l ++ putWords lo hi (drop a l) 0 ≡ putWords lo hi l a
+  unfolding putWords
+  part-words lo hi = rw part-room (by (room l a))
+    where
+      by : (t : Bool) → take a l ++ cond t (set (set (drop a l) 0 lo) 1 hi) (drop a l) ≡ cond t (set (set l a lo) (a + 1) hi) l
+      by true = two-words a lo hi l
+      by false = take-append-drop a l
 
 module _ (i : Instruction) (l : List ℕ) (start : Words) (t : Bool) (e : t ≡ encodable i) where
   pub encode-refused : not t ≡ true → (encoded.Refused EncodeRecord ≡ encodeAnswer i l start) × (l ≡ encodeWords i l start)
   unfolding encodeAnswer encodeWords
   encode-refused h = let k : encodable i ≡ false = sym e ∙ not-true t h in (rw k, rw k)
 
-  pub encode-put : (lo hi : ℕ) (r : Encoded) (m : List ℕ) → not t ≡ false → lo ≡ lowOf i → hi ≡ highOf i → r ≡ putAnswer l (start .0) → m ≡ putWords lo hi l (start .0) → (r ≡ encodeAnswer i l start) × (m ≡ encodeWords i l start)
-  unfolding encodeAnswer encodeWords
-  encode-put lo hi r m h p q a b =
+  pub encode-beyond : not t ≡ false → length l < start .0 → (encoded.Refused EncodeRoom ≡ encodeAnswer i l start) × (l ≡ encodeWords i l start)
+  unfolding encodeAnswer encodeWords putAnswer putWords
+  encode-beyond h b =
       let k : encodable i ≡ true = sym e ∙ not-false t h in
-      (rw k a, rw k (b ∙ (λ j. putWords (p j) (q j) l (start .0))))
+      let none : room l (start .0) ≡ false = cramped l (start .0) (omega arith) in
+      (rw (k, none), rw (k, none))
+
+  pub encode-put : (lo hi : ℕ) (r : Encoded) (p : List ℕ) → not t ≡ false → start .0 ≤ length l → lo ≡ lowOf i → hi ≡ highOf i → r ≡ putAnswer (take (length l - start .0) (drop (start .0) l)) 0 → p ≡ putWords lo hi (take (length l - start .0) (drop (start .0) l)) 0 → (r ≡ encodeAnswer i l start) × (putMid (start .0) (length l - start .0) l p ≡ encodeWords i l start)
+  unfolding encodeAnswer encodeWords
+  encode-put lo hi r p h b f g x y =
+      let at = start .0 in
+      let k : encodable i ≡ true = sym e ∙ not-false t h in
+      let part = lent-part at l in (
+        rw k (x ∙ ap (λ (q : List ℕ). putAnswer q 0) part ∙ part-answer at l b),
+        rw k
+            (back-again at l p
+            ∙ ap (λ (q : List ℕ). take at l ++ q) (y ∙ (λ j. putWords (f j) (g j) (part j) 0))
+            ∙ part-words at l b (lowOf i) (highOf i)),
+      )

@@ -36,7 +36,7 @@ use Rattle.formats.specs.CfAlu as cfAlu
 use Rattle.formats.specs.Export as export
 use Rattle.formats.specs.Alu as alu
 use Rattle.microcode.specs.Pair.{openerPairOf, plainPairOf, cfPairOf, op2PairOf, op3PairOf, aluPairOf, pairOf, streamOf, encodable, lowOf, highOf}
-use Rattle.microcode.specs.Codec.{room, decodeOf, putAnswer, putWords, encodeAnswer, encodeWords}
+use Rattle.microcode.specs.Codec.{room, decodeOf, putAnswer, putWords, encodeAnswer, encodeWords, Rewritten}
 use Rattle.formats.proofs.OfFormats.{word-again, read-fits, record-again, cf-word0, cf-word1, cf-alu-word0, cf-alu-word1, export-word0, export-word1, alu-word0, alu-op2, alu-op3}
 
 -- by the outcome of a test
@@ -198,29 +198,45 @@ room-of : (s : Stream) (l : List ℕ) (start : Words) (i : Instruction) → deco
 unfolding decodeOf
 room-of s l start i e = by-test (room l (start .0)) (λ t. (t, rw t at e)) (λ t. never (rw t at e))
 
+never-done : {A : Type 0} {r : _} → encoded.Refused r ≡ encoded.Done → A
+never-done e = let z : _≡_ {A = ℕ} 0 1 = cc in absurd (omega arith)
+
 module _ (i : Instruction) (l : List ℕ) (start : Words) where
   -- words that were read at a start and are written there again: done, and the whole buffer is as it was
-  pub words-again : (s : Stream) → ((k : ℕ) → getD l k 0 < 2 ^ 32) → decodeOf s l start ≡ Taken i → (encodeAnswer i l start ≡ encoded.Done) × (encodeWords i l start ≡ l)
+  pub words-again : (s : Stream) → ((k : ℕ) → getD l k 0 < 2 ^ 32) → decodeOf s l start ≡ Taken i → Rewritten i l start
   unfolding encodeAnswer encodeWords putAnswer putWords
   words-again s small e =
       let at = start .0 in
       let d = room-of s l start i e in
-      let r = pair-again (getD l at 0) (getD l (at + 1) 0) (small at) (small (at + 1)) i s (d .1) in (
-        rw (r .fits, d .0),
-        rw (r .fits, d .0)
+      let r = pair-again (getD l at 0) (getD l (at + 1) 0) (small at) (small (at + 1)) i s (d .1) in
+      record {
+        done = rw (r .fits, d .0);
+        same =
+            rw (r .fits, d .0)
             ((λ j. set (set l at (r .low j)) (at + 1) (r .high j))
             ∙ ap (λ (m : List ℕ). set m (at + 1) (getD l (at + 1) 0)) (set-getD l at 0)
-            ∙ set-getD l (at + 1) 0),
-      )
+            ∙ set-getD l (at + 1) 0);
+      }
 
-  -- a record that was written where there is room is read there again
-  pub record-again-at : encodable i ≡ true → room l (start .0) ≡ true → (encodeAnswer i l start ≡ encoded.Done) × (decodeOf (streamOf i) (encodeWords i l start) start ≡ Taken i)
-  unfolding encodeAnswer encodeWords putAnswer putWords decodeOf room
-  record-again-at h t =
+  -- what is written was of a taken form and within its widths, and had room
+  pub done-fits : encodeAnswer i l start ≡ encoded.Done → (encodable i ≡ true) × (room l (start .0) ≡ true)
+  unfolding encodeAnswer putAnswer
+  done-fits e =
+      by-test (encodable i)
+      (λ t. by-test (room l (start .0)) (λ u. (t, u)) (λ u. never-done (rw (t, u) at e)))
+      (λ t. never-done (rw t at e))
+
+  -- a record that was written is read there again
+  pub record-again-at : encodeAnswer i l start ≡ encoded.Done → decodeOf (streamOf i) (encodeWords i l start) start ≡ Taken i
+  unfolding encodeWords putWords decodeOf room
+  record-again-at e =
+      let k = done-fits e in
+      let h = k .0 in
+      let t = k .1 in
       let at = start .0 in
       let fit : at + 2 ≤ length l = leb-true (at + 2) (length l) t in
       let m = set (set l at (lowOf i)) (at + 1) (highOf i) in
       let long : length m ≡ length l = length-set (set l at (lowOf i)) (at + 1) (highOf i) ∙ length-set l at (lowOf i) in
       let low : getD m at 0 ≡ lowOf i = getD-set-other (set l at (lowOf i)) (at + 1) at (highOf i) 0 (λ e. omega arith) ∙ getD-set-same l at (lowOf i) 0 (omega arith) in
       let high : getD m (at + 1) 0 ≡ highOf i = getD-set-same (set l at (lowOf i)) (at + 1) (highOf i) 0 (omega (arith, length-set l at (lowOf i))) in
-      (rw (h, t), rw (h, t, long, t, low, high) (record-back i h))
+      rw (h, t, long, t, low, high) (record-back i h)

@@ -1,6 +1,7 @@
 -- Decoding and encoding at a start in a buffer of words: document 01, "Numbers and what they mean", the two paragraphs on encoder and
 -- decoder. A start is a word number and may be any number.
 use Prim.Native.Nat.{ℕ, _+_}
+use mathlib.Core.Path.{_≡_}
 use mathlib.Core.Bool.{Bool, cond}
 use mathlib.Core.List.{List}
 use lib.Dec.{leb}
@@ -11,13 +12,15 @@ use Rattle.checks.specs.declared.Place.the-variants.{Whole}
 use Rattle.checks.specs.declared.Verdict.{Verdict}
 use Rattle.checks.specs.declared.Verdict.the-variants as verdict
 use Rattle.checks.specs.declared.Rule.the-variants.{PackLength, EncodeRoom, EncodeRecord}
+use Rattle.checks.specs.Verdict.{verdictNumber, verdictPlace, verdictSlot}
 use Rattle.microcode.specs.declared.Instruction.{Instruction}
 use Rattle.microcode.specs.declared.Decoded.{Decoded}
 use Rattle.microcode.specs.declared.Decoded.the-variants as decoded
 use Rattle.microcode.specs.declared.Encoded.{Encoded}
 use Rattle.microcode.specs.declared.Encoded.the-variants as encoded
 use Rattle.microcode.specs.declared.Stream.{Stream}
-use Rattle.microcode.specs.Pair.{pairOf, encodable, lowOf, highOf}
+use Rattle.microcode.specs.declared.Stream.the-variants.{ControlFlow, Alu}
+use Rattle.microcode.specs.Pair.{pairOf, numberTaken, encodable, lowOf, highOf}
 
 -- two words from start on lie wholly in the words
 unfoldable pub room : List ℕ → ℕ → Bool
@@ -28,7 +31,7 @@ unfoldable pub decodeOf : Stream → List ℕ → Words → Decoded
 decodeOf stream l start =
     cond (room l (start .0)) (pairOf stream (getD l (start .0) 0) (getD l (start .0 + 1) 0)) (decoded.Refused PackLength)
 
--- 20 if two words don't fit at start, and then nothing is written
+-- 20 if two words don't fit at start, and then nothing is written. The part that the encoder lends on has them at 0
 unfoldable pub putAnswer : List ℕ → ℕ → Encoded
 putAnswer l start = cond (room l start) encoded.Done (encoded.Refused EncodeRoom)
 
@@ -43,7 +46,12 @@ encodeAnswer i l start = cond (encodable i) (putAnswer l (start .0)) (encoded.Re
 unfoldable pub encodeWords : Instruction → List ℕ → Words → List ℕ
 encodeWords i l start = cond (encodable i) (putWords (lowOf i) (highOf i) l (start .0)) l
 
--- ---- the answers by the paper's number, place and slot: a refusal of either has place and slot 0
+-- what decodes encodes at the same start to Done and to the same whole buffer
+pub record Rewritten (i : Instruction) (l : List ℕ) (start : Words) : Type 0 where
+  pub done : encodeAnswer i l start ≡ encoded.Done
+  pub same : encodeWords i l start ≡ l
+
+-- ---- the answers by the paper's number, place and slot
 
 abbrev pub decodedVerdict : Decoded → Verdict
 decodedVerdict (decoded.Refused rule) = verdict.Refused rule Whole (slots 0)
@@ -52,3 +60,23 @@ decodedVerdict (decoded.Taken i) = verdict.Accepted
 abbrev pub encodedVerdict : Encoded → Verdict
 encodedVerdict (encoded.Refused rule) = verdict.Refused rule Whole (slots 0)
 encodedVerdict encoded.Done = verdict.Accepted
+
+-- a verdict of that number, with place and slot 0
+pub record Answers (v : Verdict) (n : ℕ) : Type 0 where
+  pub number : verdictNumber v ≡ n
+  pub place : verdictPlace v ≡ 0
+  pub slot : verdictSlot v ≡ 0
+
+-- CF number not taken, ALU number not taken
+abbrev pub notTaken : Stream → ℕ
+notTaken ControlFlow = 4
+notTaken Alu = 11
+
+-- 2 if the pair isn't wholly in the words, else 4 or 11 if the number isn't taken, and otherwise always a record
+unfoldable pub decodeNumber : Stream → List ℕ → Words → ℕ
+decodeNumber stream l start =
+    cond (room l (start .0)) (cond (numberTaken stream (getD l (start .0 + 1) 0)) 0 (notTaken stream)) 2
+
+-- 21 if a field exceeds its width or the record isn't of a taken form, else 20 if the words don't fit at the start
+unfoldable pub encodeNumber : Instruction → List ℕ → Words → ℕ
+encodeNumber i l start = cond (encodable i) (cond (room l (start .0)) 0 20) 21

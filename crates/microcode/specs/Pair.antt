@@ -1,7 +1,7 @@
 -- The five forms of a word pair: which instruction two words hold, and which words an instruction has. Document 01, "Control-flow
 -- words" and "Groups of ALU slots"; the fields are those of the tables in Cf, CfAlu, Export and Alu.
 use Prim.Native.Nat.{ℕ}
-use mathlib.Core.Bool.{Bool, cond, _&&_}
+use mathlib.Core.Bool.{Bool, cond, _&&_, _||_}
 use lib.Dec.{eqb}
 use Rattle.bits.specs.Fields.{fieldOf, wordOf, fitsTable}
 use Rattle.checks.specs.declared.Rule.the-variants.{CfNumber, AluNumber}
@@ -49,6 +49,22 @@ aluPairOf lo hi = cond (eqb (fieldOf hi 15 3) 0) (op2PairOf lo hi) (op3PairOf lo
 abbrev pub pairOf : Stream → ℕ → ℕ → Decoded
 pairOf stream.ControlFlow lo hi = cfPairOf lo hi
 pairOf stream.Alu lo hi = aluPairOf lo hi
+
+-- ---- the number of a pair is taken, by its high word. `pairOf` gives a record exactly then (`pair-number`, proofs/OfNumbers.antt)
+
+-- 29:26 of a pair with bit 29 set, otherwise 29:23
+unfoldable pub cfNumberTaken : ℕ → Bool
+cfNumberTaken hi =
+    cond (eqb (fieldOf hi 29 1) 1) (cfAluTaken (fieldOf hi 26 4)) (cfTaken (fieldOf hi 23 7) || exportTaken (fieldOf hi 23 7))
+
+-- 17:7 if bits 17:15 are 0, else 17:13
+unfoldable pub aluNumberTaken : ℕ → Bool
+aluNumberTaken hi =
+    cond (eqb (fieldOf hi 15 3) 0) (isTaken (op2Class (fieldOf hi 7 11))) (isTaken (op3Class (fieldOf hi 13 5)))
+
+abbrev pub numberTaken : Stream → ℕ → Bool
+numberTaken stream.ControlFlow hi = cfNumberTaken hi
+numberTaken stream.Alu hi = aluNumberTaken hi
 
 -- ---- to words
 

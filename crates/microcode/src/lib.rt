@@ -2,9 +2,7 @@
 //
 // A decoder is told which stream a pair stands in, since ALU pairs and control-flow pairs are told apart by their place only.
 use bits::field;
-use checks::Place;
 use checks::Rule;
-use checks::Verdict;
 use formats::alu::AluWord0;
 use formats::alu::AluWord1Op2;
 use formats::alu::AluWord1Op3;
@@ -14,11 +12,10 @@ use formats::cf_alu::CfAluWord0;
 use formats::cf_alu::CfAluWord1;
 use formats::export::CfAllocExportWord0;
 use formats::export::CfAllocExportWord1Swiz;
-use units::Slots;
 use units::Words;
 ghost use mathlib.Core.Path.{_≡_};
 ghost use Rattle.microcode.specs.Pair.{openerPairOf, cfPairOf, aluPairOf, streamOf, encodable, lowOf, highOf};
-ghost use Rattle.microcode.specs.Codec.{decodeOf, putAnswer, putWords, encodeAnswer, encodeWords, decodedVerdict, encodedVerdict};
+ghost use Rattle.microcode.specs.Codec.{decodeOf, putAnswer, putWords, encodeAnswer, encodeWords, Rewritten, Answers, decodedVerdict, decodeNumber, encodedVerdict, encodeNumber};
 
 // The five forms of a pair.
 pub enum Instruction {
@@ -45,22 +42,50 @@ pub enum Encoded {
     Done,
 }
 
-// A control-flow pair with bit 29 set: an ALU clause opener.
-fn opener_pair(low: u32, high: u32) -> Decoded
-    ensures { λ r. ⌜ r ≡ openerPairOf low high ⌝ }
+// The instruction at `start`, which may be any number. What is taken encodes at `start` to the same words. The answer by the paper's
+// table: 2, 4, 11 or 0, with place and slot 0.
+pub fn decode(words: &[u32], start: Words, stream: Stream) -> Decoded
+    ensures { λ r. ⌜ r ≡ decodeOf stream (now (words .entry)) start ⌝ }
+    ensures { λ r. ⌜ ((i : Instruction) → r ≡ Decoded.Taken i → Rewritten i (now (words .entry)) start) ⌝ }
+    ensures { λ r. ⌜ Answers (decodedVerdict r) (decodeNumber stream (now (words .entry)) start) ⌝ }
 {
-    let number = field(high, 26, 4);
-    if opcodes::cf_alu_taken(number) {
-        return Decoded::Taken(Instruction::CfAlu(
-            formats::cf_alu::read_word0(low),
-            formats::cf_alu::read_word1(high),
-        ));
+    let at = start.0;
+    if words.len() < 2 {
+        return Decoded::Refused(Rule::PackLength);
     }
-    Decoded::Refused(Rule::CfNumber)
+    if words.len() - 2 < at {
+        return Decoded::Refused(Rule::PackLength);
+    }
+    let low = words[at];
+    let high = words[at + 1];
+    match stream {
+        Stream::ControlFlow => cf_pair(low, high),
+        Stream::Alu => alu_pair(low, high),
+    }
+}
+
+// The words of `i` at `start`, which may be any number; the part from there on is lent on. Every other word stays, a refusal writes
+// nothing, and what is written decodes to `i`. The answer by the paper's table: 21, 20 or 0, with place and slot 0.
+pub fn encode(i: Instruction, out: &mut [u32], start: Words) -> Encoded
+    ensures { λ r. ⌜ r ≡ encodeAnswer i (now (out .entry)) start ⌝ }
+    ensures { λ r. ⌜ now (out .exit) ≡ encodeWords i (now (out .entry)) start ⌝ }
+    ensures { λ r. ⌜ (r ≡ Encoded.Done → decodeOf (streamOf i) (now (out .exit)) start ≡ Decoded.Taken i) ⌝ }
+    ensures { λ r. ⌜ Answers (encodedVerdict r) (encodeNumber i (now (out .entry)) start) ⌝ }
+{
+    let at = start.0;
+    if !is_encodable(i) {
+        return Encoded::Refused(Rule::EncodeRecord);
+    }
+    let low = low_word(i);
+    let high = high_word(i);
+    if out.len() < at {
+        return Encoded::Refused(Rule::EncodeRoom);
+    }
+    put_pair(&mut out[at..], low, high)
 }
 
 // The instruction that two words hold in the control-flow section.
-pub fn cf_pair(low: u32, high: u32) -> Decoded
+fn cf_pair(low: u32, high: u32) -> Decoded
     ensures { λ r. ⌜ r ≡ cfPairOf low high ⌝ }
 {
     if field(high, 29, 1) == 1 {
@@ -82,8 +107,22 @@ pub fn cf_pair(low: u32, high: u32) -> Decoded
     Decoded::Refused(Rule::CfNumber)
 }
 
+// A control-flow pair with bit 29 set: an ALU clause opener.
+fn opener_pair(low: u32, high: u32) -> Decoded
+    ensures { λ r. ⌜ r ≡ openerPairOf low high ⌝ }
+{
+    let number = field(high, 26, 4);
+    if opcodes::cf_alu_taken(number) {
+        return Decoded::Taken(Instruction::CfAlu(
+            formats::cf_alu::read_word0(low),
+            formats::cf_alu::read_word1(high),
+        ));
+    }
+    Decoded::Refused(Rule::CfNumber)
+}
+
 // The instruction that two words hold in an ALU clause.
-pub fn alu_pair(low: u32, high: u32) -> Decoded
+fn alu_pair(low: u32, high: u32) -> Decoded
     ensures { λ r. ⌜ r ≡ aluPairOf low high ⌝ }
 {
     if field(high, 15, 3) == 0 {
@@ -106,38 +145,8 @@ pub fn alu_pair(low: u32, high: u32) -> Decoded
     Decoded::Refused(Rule::AluNumber)
 }
 
-// The instruction at `start`, which may be any number.
-pub fn decode(words: &[u32], start: Words, stream: Stream) -> Decoded
-    ensures { λ r. ⌜ r ≡ decodeOf stream (now (words .entry)) start ⌝ }
-{
-    let at = start.0;
-    if words.len() < 2 {
-        return Decoded::Refused(Rule::PackLength);
-    }
-    if words.len() - 2 < at {
-        return Decoded::Refused(Rule::PackLength);
-    }
-    match stream {
-        Stream::ControlFlow => cf_pair(words[at], words[at + 1]),
-        Stream::Alu => alu_pair(words[at], words[at + 1]),
-    }
-}
-
-// The stream that a form stands in.
-pub fn stream_of(i: Instruction) -> Stream
-    ensures { λ r. ⌜ r ≡ streamOf i ⌝ }
-{
-    match i {
-        Instruction::CfAlu(_, _) => Stream::ControlFlow,
-        Instruction::Cf(_, _) => Stream::ControlFlow,
-        Instruction::Export(_, _) => Stream::ControlFlow,
-        Instruction::Op2(_, _) => Stream::Alu,
-        Instruction::Op3(_, _) => Stream::Alu,
-    }
-}
-
 // Whether a record is of a taken form and each of its fields within its width.
-pub fn is_encodable(i: Instruction) -> bool
+fn is_encodable(i: Instruction) -> bool
     ensures { λ r. ⌜ r ≡ encodable i ⌝ }
 {
     match i {
@@ -166,7 +175,7 @@ pub fn is_encodable(i: Instruction) -> bool
 }
 
 // The two words of a record.
-pub fn low_word(i: Instruction) -> u32
+fn low_word(i: Instruction) -> u32
     ensures { λ r. ⌜ r ≡ lowOf i ⌝ }
 {
     match i {
@@ -178,7 +187,7 @@ pub fn low_word(i: Instruction) -> u32
     }
 }
 
-pub fn high_word(i: Instruction) -> u32
+fn high_word(i: Instruction) -> u32
     ensures { λ r. ⌜ r ≡ highOf i ⌝ }
 {
     match i {
@@ -190,58 +199,15 @@ pub fn high_word(i: Instruction) -> u32
     }
 }
 
-// Two words at `start`, if they fit there.
-fn put(out: &mut [u32], start: usize, low: u32, high: u32) -> Encoded
-    ensures { λ r. ⌜ r ≡ putAnswer (now (out .entry)) start ⌝ }
-    ensures { λ r. ⌜ now (out .exit) ≡ putWords low high (now (out .entry)) start ⌝ }
+// Two words at the beginning of a part; 20 where it has fewer.
+fn put_pair(part: &mut [u32], low: u32, high: u32) -> Encoded
+    ensures { λ r. ⌜ r ≡ putAnswer (now (part .entry)) 0 ⌝ }
+    ensures { λ r. ⌜ now (part .exit) ≡ putWords low high (now (part .entry)) 0 ⌝ }
 {
-    if out.len() < 2 {
-        return Encoded::Refused(Rule::EncodeRoom);
+    if 2 <= part.len() {
+        part[0] = low;
+        part[1] = high;
+        return Encoded::Done;
     }
-    if out.len() - 2 < start {
-        return Encoded::Refused(Rule::EncodeRoom);
-    }
-    let part = &mut out[start..];
-    part[0] = low;
-    part[1] = high;
-    Encoded::Done
-}
-
-// The words of `i` at `start`, which may be any number. Every other word stays; a refusal writes nothing.
-pub fn encode(i: Instruction, out: &mut [u32], start: Words) -> Encoded
-    ensures { λ r. ⌜ r ≡ encodeAnswer i (now (out .entry)) start ⌝ }
-    ensures { λ r. ⌜ now (out .exit) ≡ encodeWords i (now (out .entry)) start ⌝ }
-{
-    let at = start.0;
-    if !is_encodable(i) {
-        return Encoded::Refused(Rule::EncodeRecord);
-    }
-    put(out, at, low_word(i), high_word(i))
-}
-
-// The verdict that stands for an answer, with the paper's number; place and slot of a refusal are 0.
-pub fn decoded_verdict(d: Decoded) -> Verdict
-    ensures { λ r. ⌜ r ≡ decodedVerdict d ⌝ }
-{
-    match d {
-        Decoded::Refused(rule) => Verdict::Refused {
-            rule,
-            place: Place::Whole,
-            slot: Slots(0),
-        },
-        Decoded::Taken(_) => Verdict::Accepted,
-    }
-}
-
-pub fn encoded_verdict(e: Encoded) -> Verdict
-    ensures { λ r. ⌜ r ≡ encodedVerdict e ⌝ }
-{
-    match e {
-        Encoded::Refused(rule) => Verdict::Refused {
-            rule,
-            place: Place::Whole,
-            slot: Slots(0),
-        },
-        Encoded::Done => Verdict::Accepted,
-    }
+    Encoded::Refused(Rule::EncodeRoom)
 }

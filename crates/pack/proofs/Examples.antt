@@ -1,18 +1,20 @@
--- Worked examples, by computation: document 01's copy pack as words, and what is answered to inputs before the judge is asked.
+-- Worked examples, by computation: document 01's copy pack as words, and what is answered to inputs and packs before the judge is asked.
 use mathlib.Core.Path.{_≡_, refl}
 use mathlib.Core.List.{List, [], _∷_, _++_, map}
 use Prim.Native.Nat.{ℕ}
 use lib.ListN.{take}
 use Rattle.card.specs.Text.{text, firstLine, behindFirst, behind, lineOf, linesLength, beginsWith, sameAs, valueOf, valueAt, wordIn, allDigits, isDecimal, digitsValue, numberOf, numberIn}
-use Rattle.card.specs.Card.{cardWith, cardOf}
+use Rattle.card.specs.Card.{cardWith, cardOf, testOf}
+use Rattle.card.specs.declared.Card.{Card}
 use Rattle.card.specs.declared.Kind.the-variants.{Pixel}
 use Rattle.card.specs.declared.Build.the-variants as build
 use Rattle.ascii.specs.Decimal.{decimal, decimalWithin}
+use Rattle.checks.specs.declared.Verdict.{Verdict}
 use Rattle.report.specs.Report.{reportLines, reportBytes}
 use Rattle.report.specs.declared.ReportBuild.the-variants.{Unknown, Production, Debug}
 use Rattle.judge.specs.Judge.{judgement}
-use Rattle.pack.specs.Words.{wordsIn, loaded}
-use Rattle.pack.specs.Input.{answer, badLine, badLength, packVerdict, judgedOf, reportOf, verdictIn, judgedIn, packRoom, inputRoom}
+use Rattle.pack.specs.Words.{wordsIn}
+use Rattle.pack.specs.Input.{answer, badLine, badLength, packVerdict, judgedOf, reportOf}
 use Rattle.pack.specs.declared.Judged.{Judged}
 
 -- ---- bytes and words
@@ -37,15 +39,6 @@ seven = 1 ∷ 2 ∷ 3 ∷ 4 ∷ 5 ∷ 6 ∷ 7 ∷ []
 left-over : map (λ n. wordsIn (take n seven)) (0 ∷ 1 ∷ 3 ∷ 4 ∷ 7 ∷ []) ≡ [] ∷ [] ∷ [] ∷ (67305985 ∷ []) ∷ (67305985 ∷ []) ∷ []
 unfolding wordsIn
 left-over = refl
-
--- a room that is larger, and one that is smaller
-larger-room : loaded (1 ∷ 0 ∷ 0 ∷ 0 ∷ 2 ∷ 0 ∷ 0 ∷ 0 ∷ 3 ∷ []) (7 ∷ 8 ∷ 9 ∷ []) ≡ 1 ∷ 2 ∷ 9 ∷ []
-unfolding loaded wordsIn
-larger-room = refl
-
-smaller-room : loaded (1 ∷ 0 ∷ 0 ∷ 0 ∷ 2 ∷ 0 ∷ 0 ∷ 0 ∷ 3 ∷ []) (7 ∷ []) ≡ 1 ∷ []
-unfolding loaded wordsIn
-smaller-room = refl
 
 -- ---- inputs
 
@@ -75,7 +68,7 @@ inputs =
     ∷ []
 
 inputs-judged : map (λ e. judgedOf (e .0)) inputs ≡ map (λ e. e .1) inputs
-unfolding judgedOf packVerdict wordsIn cardOf firstLine behindFirst behind lineOf linesLength beginsWith sameAs valueOf valueAt wordIn allDigits isDecimal digitsValue numberOf numberIn
+unfolding judgedOf packVerdict testOf wordsIn cardOf firstLine behindFirst behind lineOf linesLength beginsWith sameAs valueOf valueAt wordIn allDigits isDecimal digitsValue numberOf numberIn
 inputs-judged = refl
 
 -- the report on nothing
@@ -83,17 +76,21 @@ nothing-reported : reportOf [] ≡ text "build=unknown\nverdict=1\nplace=1\nslot
 unfolding reportOf judgedOf cardOf lineOf behind firstLine valueAt reportBytes reportLines decimal decimalWithin
 nothing-reported = refl
 
--- the copy pack in a room that just holds it, and in one that lacks a word: it is not judged, and the room stays
-abbrev judgedCopy : Judged
-judgedCopy = answer Production (judgement (cardWith Pixel build.Production 2 0 0 0 3) copyWords)
+-- ---- a card that a caller makes, by its gprs and quads, with the copy pack and with a byte less: 1 before 2
+abbrev made : ℕ → ℕ → Card
+made gprs quads = cardWith Pixel build.Production gprs 0 0 0 quads
 
-rooms : map (λ room. judgedIn room (production ++ copyBytes)) (6 ∷ 5 ∷ []) ≡ judgedCopy ∷ answer Production badLength ∷ []
-unfolding judgedIn verdictIn wordsIn cardOf firstLine behindFirst behind lineOf linesLength beginsWith sameAs valueOf valueAt wordIn allDigits isDecimal digitsValue numberOf numberIn
-rooms = refl
+abbrev verdicts : List (Card × List ℕ × Verdict)
+verdicts =
+    (made 2 3, copyBytes, judgement (made 2 3) copyWords)
+    ∷ (made 2 3, take 23 copyBytes, badLength)
+    ∷ (made 2 4, copyBytes, badLength)
+    ∷ (made 0 3, copyBytes, badLine 3)
+    ∷ (made 0 3, take 23 copyBytes, badLine 3)
+    ∷ (made 2 8193, copyBytes, badLine 7)
+    ∷ (made 2 0, [], badLine 7)
+    ∷ []
 
-abbrev five : List ℕ
-five = 1 ∷ 1 ∷ 1 ∷ 1 ∷ 1 ∷ []
-
-rooms-after : map (inputRoom (production ++ copyBytes)) ((9 ∷ 9 ∷ five) ∷ five ∷ []) ≡ (copyWords ++ (1 ∷ [])) ∷ five ∷ []
-unfolding inputRoom packRoom loaded wordsIn cardOf firstLine behindFirst behind lineOf linesLength beginsWith sameAs valueOf valueAt wordIn allDigits isDecimal digitsValue numberOf numberIn
-rooms-after = refl
+verdicts-given : map (λ e. packVerdict (e .0) (e .1)) verdicts ≡ map (λ e. e .2) verdicts
+unfolding packVerdict testOf wordsIn
+verdicts-given = refl

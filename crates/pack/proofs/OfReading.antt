@@ -9,28 +9,25 @@ use Prim.Native.Nat.{ℕ, zero, suc, pred, _+_, _-_, _*_, _/_, _%_, _^_, _≤_, 
 use Prim.Native.String.{String}
 use native.Mathlib.Nat.{pow-suc}
 use native.Mathlib.Omega.{arith}
-use borrow.Author.Tests.{lt-ltb, le-ltb, ltb-true, ltb-false, leb-true, ne-eqb}
+use borrow.Author.Tests.{lt-ltb, le-ltb, ltb-true, ltb-false, leb-true}
 use lib.Dec.{eqb, leb, ltb}
 use lib.ListN.{length, take, drop, length-append, length-drop, length-take}
 use lib.Seq.{take-nil, take-all, drop-drop}
 use Rattle.card.specs.Text.{text, found, lineFeed, firstLine, behindFirst, behind, lineOf, linesLength, sameAs, valueOf, beginsWith, valueAt, wordIn, numberOf, numberIn, from_to_}
-use Rattle.card.specs.Card.{lineSays, kinds, builds, gprsAllowed, tempsAllowed, constsAllowed, stackAllowed, quadsAllowed, judged, _>>=_, cardWith, cardOf}
+use Rattle.card.specs.Card.{lineSays, kinds, builds, gprsAllowed, tempsAllowed, constsAllowed, stackAllowed, quadsAllowed, judged, _>>=_, cardWith, cardOf, testOf}
 use Rattle.card.specs.declared.CardRead.{CardRead}
-use Rattle.card.specs.declared.CardRead.the-variants.{Whole}
+use Rattle.card.specs.declared.CardRead.the-variants.{Whole, BadLine}
+use Rattle.card.specs.declared.CardTest.the-variants.{InRange}
 use Rattle.card.specs.declared.Card.{Card}
 use Rattle.ascii.proofs.OfDecimal.{within-small, within-large}
 use Rattle.ascii.specs.Decimal.{digitOf, decimalWithin, decimal}
 use Rattle.card.proofs.OfTests.{both}
 use Rattle.card.proofs.OfLines.{lines-place}
 use Rattle.card.proofs.OfRows.{card-lines}
-use Rattle.card.proofs.OfCard.{whole-length}
+use Rattle.card.proofs.OfCard.{whole-length, whole-in-range, range-figures}
 use Rattle.card.proofs.OfDecimals.{number-text}
-use Rattle.report.specs.Report.{reportBytes}
-use Rattle.judge.specs.Judge.{judgement}
-use Rattle.pack.specs.Words.{wordsIn}
-use Rattle.pack.specs.Input.{badLength, packVerdict, behindCard, judgedOf, reportOf, reportIn}
-use Rattle.pack.specs.declared.Judged.{Judged}
-use Rattle.pack.proofs.OfInput.{same-behind, enough-room}
+use Rattle.pack.specs.Input.{answer, shown, badLength, packVerdict, behindCard, judgedOf, reportOf}
+use Rattle.pack.proofs.OfInput.{wrong-length, bad-length, report-on}
 
 -- ---- the first line of the first bytes
 
@@ -300,38 +297,46 @@ card-cut s all h =
 
 -- ---- the answer to the first bytes
 
+-- the card read, the answer is the same to two inputs where what stands behind it is judged the same
+same-behind : (input other : List ℕ)
+    → ((card : Card) (n : ℕ) → cardOf input ≡ Whole card n → packVerdict card (drop n other) ≡ packVerdict card (drop n input))
+    → behindCard other (cardOf input) ≡ behindCard input (cardOf input)
+same-behind input other h = by (cardOf input) refl
+  where
+    by : (known : CardRead) → cardOf input ≡ known → behindCard other known ≡ behindCard input known
+    by (Whole card n) e = ap (answer (shown (card .build))) (h card n e)
+    by (BadLine n) e = refl
+
 whole-short : (s : List ℕ) (card : Card) (n : ℕ) → cardOf s ≡ Whole card n → n ≤ 73
 whole-short s card n h = omega (arith, whole-length (take 73 s) card n (card-cut s 73 (omega arith) ∙ h), length-take 73 s)
 
-wrong-length : (card : Card) (pack : List ℕ) → 8 * card .quads .0 < length pack → packVerdict card pack ≡ badLength
-unfolding packVerdict
-wrong-length card pack h =
-    let f : length pack ≡ 8 * card .quads .0 → ⊥ = λ e. (omega arith) in
-    ap (λ (t : Bool). cond t (judgement card (wordsIn pack)) badLength) (ne-eqb (length pack) (8 * card .quads .0) f)
-
 -- a pack behind a card, cut: it is the whole, or both are longer than any card allows
-pack-cut : (s : List ℕ) (all : ℕ) → 65610 ≤ all → (card : Card) (n : ℕ) → cardOf s ≡ Whole card n → card .quads .0 ≤ 8192
+pack-cut : (s : List ℕ) (all : ℕ) → 65610 ≤ all → (card : Card) (n : ℕ) → cardOf s ≡ Whole card n
     → packVerdict card (drop n (take all s)) ≡ packVerdict card (drop n s)
-pack-cut s all h card n e q = by (ltb all (length s)) refl
+pack-cut s all h card n e = by (ltb all (length s)) refl
   where
+    in-range : testOf card ≡ InRange
+    in-range = whole-in-range s card n e
+
+    too-long : (pack : List ℕ) → 65537 ≤ length pack → badLength ≡ packVerdict card pack
+    too-long pack l =
+        let r = range-figures card in-range in
+        bad-length card pack in-range (wrong-length (card .quads) (length pack) (λ k. omega (arith, r .quads-most))) refl refl
+
     by : (x : Bool) → ltb all (length s) ≡ x → packVerdict card (drop n (take all s)) ≡ packVerdict card (drop n s)
     by true l =
         let w = ltb-true all (length s) l in
         let k = whole-short s card n e in
-        wrong-length card (drop n (take all s)) (omega (arith, length-drop n (take all s), length-take all s))
-        ∙ sym (wrong-length card (drop n s) (omega (arith, length-drop n s)))
+        sym (too-long (drop n (take all s)) (omega (arith, length-drop n (take all s), length-take all s)))
+        ∙ too-long (drop n s) (omega (arith, length-drop n s))
     by false l = ap (λ (u : List ℕ). packVerdict card (drop n u)) (take-all all s (ltb-false all (length s) l))
 
 -- 65,610 bytes are enough to read: one more than the longest card and the longest pack have
 pub enough-read : (input : List ℕ) (all : ℕ) → 65610 ≤ all → judgedOf (take all input) ≡ judgedOf input
 unfolding judgedOf
 enough-read input all h =
-    ap (behindCard packVerdict (take all input)) (card-cut input all (omega arith))
-    ∙ same-behind packVerdict packVerdict input (take all input) (pack-cut input all h)
+    ap (behindCard (take all input)) (card-cut input all (omega arith)) ∙ same-behind input (take all input) (pack-cut input all h)
 
--- so a program that reads so many bytes, and has room for the longest pack, writes the report on its whole input
-pub enough : (room : ℕ) (input : List ℕ) → 16384 ≤ room → reportIn room (take 65610 input) ≡ reportOf input
-unfolding reportIn reportOf
-enough room input h =
-    ap (λ (j : Judged). reportBytes (j .build) (j .verdict))
-    (enough-room room (take 65610 input) h ∙ enough-read input 65610 (omega arith))
+-- so a program that reads so many bytes writes the report on its whole input
+pub enough : (input : List ℕ) → reportOf (take 65610 input) ≡ reportOf input
+enough input = sym (report-on (take 65610 input) (judgedOf input) (sym (enough-read input 65610 (omega arith)))) ∙ report-on input (judgedOf input) refl

@@ -1,12 +1,12 @@
 -- The words of some bytes one by one, and a room that is filled with them word by word. Assumes nothing.
 use mathlib.Core.Path.{_≡_, refl, ap, sym, _∙_}
-use mathlib.Core.List.{List, [], _∷_, _++_, append-assoc}
+use mathlib.Core.List.{List, [], _∷_, _++_}
 use Prim.Native.Nat.{ℕ, zero, suc, _+_, _*_, _/_, _≤_, _<_}
 use native.Mathlib.Numerals.{add-one}
 use native.Mathlib.Omega.{arith}
-use lib.ListN.{length, getD, take, drop, set, length-set}
-use lib.Seq.{take-suc, drop-cons, set-at, length-take-le, take-all, take-at}
-use Rattle.pack.specs.Words.{littleEndian, wordsIn, wordAt, loadedCount, loaded}
+use lib.ListN.{length, getD, take, set, length-set}
+use lib.Seq.{take-suc, take-suc-set, take-all}
+use Rattle.pack.specs.Words.{littleEndian, wordsIn, wordAt}
 
 -- ---- one word
 
@@ -47,50 +47,34 @@ word-is (a ∷ b ∷ c ∷ d ∷ s) (suc i) h = word-is s i (omega arith) ∙ sy
 
 -- ---- word by word, as the loop puts them
 
--- the first i of n words are loaded
-pub record Loading (bytes earlier later : List ℕ) (n i : ℕ) : Type 0 where
-  pub count : n ≡ loadedCount bytes earlier
+-- the first i of n words are loaded into a room that has a place for each
+pub record Loading (bytes room later : List ℕ) (n i : ℕ) : Type 0 where
+  pub count : n ≡ length bytes / 4
+  pub enough : n ≤ length room
   pub within : i ≤ n
-  pub same-length : length later ≡ length earlier
-  pub so-far : later ≡ take i (wordsIn bytes) ++ drop i earlier
+  pub same-length : length later ≡ length room
+  pub so-far : take i later ≡ take i (wordsIn bytes)
 
-pub none-loaded : (bytes room : List ℕ) (n : ℕ) → n ≡ loadedCount bytes room → Loading bytes room room n 0
-none-loaded bytes room n e = record { count = e; within = omega arith; same-length = refl; so-far = refl }
+pub none-loaded : (bytes room : List ℕ) (n : ℕ) → n ≡ length bytes / 4 → length bytes / 4 ≤ length room → Loading bytes room room n 0
+none-loaded bytes room n e h =
+    record { count = e; enough = omega arith; within = omega arith; same-length = refl; so-far = refl }
 
--- one more word put
-put : (xs ys : List ℕ) (i w : ℕ) → i < length xs → i < length ys → w ≡ getD xs i 0
-    → set (take i xs ++ drop i ys) i w ≡ take (i + 1) xs ++ drop (i + 1) ys
-put xs ys i w h k e =
-    ap (λ l. set (take i xs ++ l) i w) (drop-cons ys i 0 k)
-    ∙ set-at (take i xs) (getD ys i 0) (drop (suc i) ys) w i (length-take-le i xs (omega arith))
-    ∙ rw (add-one, take-suc xs i 0, append-assoc, e)
-
-pub one-more-loaded : {bytes earlier later : List ℕ} {n i w : ℕ} → Loading bytes earlier later n i → i < n
-    → w ≡ wordAt bytes (i * 4) → Loading bytes earlier (set later i w) n (i + 1)
-one-more-loaded {bytes} {earlier} {later} {n} {i} {w} l h e =
+pub one-more-loaded : {bytes room later : List ℕ} {n i w : ℕ} → Loading bytes room later n i → i < n
+    → w ≡ wordAt bytes (i * 4) → Loading bytes room (set later i w) n (i + 1)
+one-more-loaded {bytes} {room} {later} {n} {i} {w} l h e =
     let k : i < length bytes / 4 = omega arith in
+    let j : i < length (wordsIn bytes) = omega (arith, words-length bytes) in
     record {
       count = l .count;
+      enough = l .enough;
       within = omega arith;
       same-length = length-set later i w ∙ l .same-length;
       so-far =
-          ap (λ x. set x i w) (l .so-far)
-          ∙ put (wordsIn bytes) earlier i w (omega (arith, words-length bytes)) (omega arith) (e ∙ sym (word-is bytes i k));
+          rw (add-one, take-suc-set later i w (omega arith), take-suc (wordsIn bytes) i 0 j)
+          (λ x. l .so-far x ++ ((e ∙ sym (word-is bytes i k)) x ∷ []));
     }
 
-pub all-loaded : {bytes earlier later : List ℕ} {n i : ℕ} → Loading bytes earlier later n i → n ≤ i → later ≡ loaded bytes earlier
-unfolding loaded
-all-loaded {bytes} {earlier} {later} {n} {i} l h =
-    let e : i ≡ loadedCount bytes earlier = omega arith in
-    l .so-far ∙ ap (λ k. take k (wordsIn bytes) ++ drop k earlier) e
-
--- ---- all words in a room that is large enough
-
-pub whole-loaded : (bytes room : List ℕ) → length bytes / 4 ≤ length room
-    → take (loadedCount bytes room) (loaded bytes room) ≡ wordsIn bytes
-unfolding loaded
-whole-loaded bytes room h =
-    let n = loadedCount bytes room in
-    let m : length (wordsIn bytes) ≤ n = omega (arith, words-length bytes) in
-    let k : length (take n (wordsIn bytes)) ≡ n = length-take-le n (wordsIn bytes) (omega (arith, words-length bytes)) in
-    take-at (take n (wordsIn bytes)) (drop n room) n k ∙ take-all n (wordsIn bytes) m
+pub all-loaded : {bytes room later : List ℕ} {n i : ℕ} → Loading bytes room later n i → n ≤ i → take n later ≡ wordsIn bytes
+all-loaded {bytes} {room} {later} {n} {i} l h =
+    let e : n ≡ i = omega arith in
+    ap (λ (k : ℕ). take k later) e ∙ l .so-far ∙ take-all i (wordsIn bytes) (omega (arith, words-length bytes))

@@ -1,9 +1,9 @@
 -- The whole input, a card and behind it a pack, and what is answered to it: document 01, "What the judge reads", with the numbers 1
 -- and 2 of "Numbers and what they mean". Every other number is the judge's.
 use Prim.Native.Nat.{ℕ, _*_}
-use mathlib.Core.Bool.{Bool, cond, _&&_}
+use mathlib.Core.Bool.{Bool, cond}
 use mathlib.Core.List.{List}
-use lib.Dec.{eqb, leb}
+use lib.Dec.{eqb}
 use lib.ListN.{length, drop}
 use Rattle.units.specs.Units.{slots}
 use Rattle.units.specs.declared.Quadwords.{Quadwords}
@@ -11,17 +11,19 @@ use Rattle.checks.specs.declared.Rule.the-variants.{CardLine, PackLength}
 use Rattle.checks.specs.declared.Place.the-variants as place
 use Rattle.checks.specs.declared.Verdict.{Verdict}
 use Rattle.checks.specs.declared.Verdict.the-variants.{Refused}
-use Rattle.card.specs.Card.{cardOf}
+use Rattle.card.specs.Card.{cardOf, testOf}
 use Rattle.card.specs.declared.Build.{Build}
 use Rattle.card.specs.declared.Build.the-variants as build
 use Rattle.card.specs.declared.Card.{Card}
 use Rattle.card.specs.declared.CardRead.{CardRead}
 use Rattle.card.specs.declared.CardRead.the-variants as read
+use Rattle.card.specs.declared.CardTest.{CardTest}
+use Rattle.card.specs.declared.CardTest.the-variants as test
 use Rattle.report.specs.Report.{reportBytes}
 use Rattle.report.specs.declared.ReportBuild.{ReportBuild}
 use Rattle.report.specs.declared.ReportBuild.the-variants as report
 use Rattle.judge.specs.Judge.{judgement}
-use Rattle.pack.specs.Words.{wordsIn, loaded}
+use Rattle.pack.specs.Words.{wordsIn}
 use Rattle.pack.specs.declared.Judged.{Judged}
 
 -- ---- what is answered
@@ -49,49 +51,26 @@ badLength = Refused PackLength place.Whole (slots 0)
 abbrev pub rightLength : Quadwords → ℕ → Bool
 rightLength quads bytes = eqb bytes (8 * quads .0)
 
--- the verdict on a pack in bytes: its length, and then the judge's on its words
+-- Order: 1, 2, and then the judge's numbers. A card that a caller makes may have a line out of range; one that was read has none
+abbrev pub byTest : Card → List ℕ → CardTest → Verdict
+byTest card pack (test.BadLine n) = badLine n
+byTest card pack test.InRange = cond (rightLength (card .quads) (length pack)) (judgement card (wordsIn pack)) badLength
+
+-- the verdict on a pack in bytes, by any card
 unfoldable pub packVerdict : Card → List ℕ → Verdict
-packVerdict card pack = cond (rightLength (card .quads) (length pack)) (judgement card (wordsIn pack)) badLength
+packVerdict card pack = byTest card pack (testOf card)
 
 -- ---- the card and the pack
 
--- where the card is read, what `verdict` says of it and of what stands behind it; else 1, with the build unknown
-abbrev pub behindCard : (Card → List ℕ → Verdict) → List ℕ → CardRead → Judged
-behindCard verdict input (read.Whole card taken) = answer (shown (card .build)) (verdict card (drop taken input))
-behindCard verdict input (read.BadLine n) = answer report.Unknown (badLine n)
+-- where the card is read, its build and the verdict on what stands behind it; else 1, with the build unknown
+abbrev pub behindCard : List ℕ → CardRead → Judged
+behindCard input (read.Whole card taken) = answer (shown (card .build)) (packVerdict card (drop taken input))
+behindCard input (read.BadLine n) = answer report.Unknown (badLine n)
 
 -- what is answered to an input
 unfoldable pub judgedOf : List ℕ → Judged
-judgedOf input = behindCard packVerdict input (cardOf input)
+judgedOf input = behindCard input (cardOf input)
 
 -- the report on an input
 unfoldable pub reportOf : List ℕ → List ℕ
 reportOf input = reportBytes (judgedOf input .build) (judgedOf input .verdict)
-
--- ---- the same in a room of so many words, which a caller lends
-
--- the pack is judged: its length is right, and its words fit the room
-abbrev pub fits : Quadwords → ℕ → ℕ → Bool
-fits quads bytes room = rightLength quads bytes && leb (2 * quads .0) room
-
--- a pack that the room is too small for is refused as one of a wrong length. Every pack that a card allows fits 16,384 words, and
--- in a room of those the answer is `packVerdict` (`enough-room`, proofs/OfInput.antt)
-unfoldable pub verdictIn : ℕ → Card → List ℕ → Verdict
-verdictIn room card pack = cond (fits (card .quads) (length pack) room) (judgement card (wordsIn pack)) badLength
-
-unfoldable pub judgedIn : ℕ → List ℕ → Judged
-judgedIn room input = behindCard (verdictIn room) input (cardOf input)
-
-unfoldable pub reportIn : ℕ → List ℕ → List ℕ
-reportIn room input = reportBytes (judgedIn room input .build) (judgedIn room input .verdict)
-
--- the room afterwards: it has the words of a pack that is judged, and else stays as it was
-unfoldable pub packRoom : Card → List ℕ → List ℕ → List ℕ
-packRoom card pack room = cond (fits (card .quads) (length pack) (length room)) (loaded pack room) room
-
-abbrev pub behindCardRoom : List ℕ → List ℕ → CardRead → List ℕ
-behindCardRoom input room (read.Whole card taken) = packRoom card (drop taken input) room
-behindCardRoom input room (read.BadLine n) = room
-
-unfoldable pub inputRoom : List ℕ → List ℕ → List ℕ
-inputRoom input room = behindCardRoom input room (cardOf input)

@@ -1,7 +1,7 @@
 -- Bytes as words: document 01, "What the judge reads". Words are 32 bits, little-endian in files.
-use Prim.Native.Nat.{ℕ, _+_, _*_, _/_, min}
-use mathlib.Core.List.{List, [], _∷_, _++_}
-use lib.ListN.{length, getD, take, drop}
+use Prim.Native.Nat.{ℕ, _+_, _*_}
+use mathlib.Core.List.{List, [], _∷_}
+use lib.ListN.{getD}
 
 -- four bytes as a word, the lowest first
 abbrev pub littleEndian : ℕ → ℕ → ℕ → ℕ → ℕ
@@ -14,14 +14,6 @@ wordsIn (a ∷ []) = []
 wordsIn (a ∷ b ∷ []) = []
 wordsIn (a ∷ b ∷ c ∷ []) = []
 wordsIn (a ∷ b ∷ c ∷ d ∷ s) = littleEndian a b c d ∷ wordsIn s
-
--- how many words of some bytes are loaded into a room: all, or as many as it has places
-abbrev pub loadedCount : List ℕ → List ℕ → ℕ
-loadedCount bytes room = min (length bytes / 4) (length room)
-
--- the room afterwards: the words loaded, and behind them what stood there
-unfoldable pub loaded : List ℕ → List ℕ → List ℕ
-loaded bytes room = take (loadedCount bytes room) (wordsIn bytes) ++ drop (loadedCount bytes room) room
 
 -- ---- a step of the way there
 

@@ -1,16 +1,27 @@
 // The whole input: a card and behind it a pack, as bytes, and the answer to it.
 //
-// The pack's words are read off the bytes once, into room that the caller lends, and judged there.
+// The pack's words are read off the bytes once, into room of this crate's own, and judged there: a caller lends nothing but the
+// buffer for the report.
 ghost use mathlib.Core.Path.{_≡_};
-ghost use lib.ListN.{length};
+ghost use Prim.Native.Nat.{ℕ, _/_, _≤_};
+ghost use lib.ListN.{length, take};
+ghost use Rattle.units.specs.Units as counts;
+ghost use Rattle.checks.specs.declared.Verdict.the-variants.{Refused};
+ghost use Rattle.card.specs.declared.CardTest.the-variants.{InRange};
+ghost use Rattle.card.specs.Card.{testOf};
+ghost use Rattle.report.specs.declared.Written.the-variants.{Length};
 ghost use Rattle.report.specs.Buffer.{writtenOf, bufferAfter};
-ghost use Rattle.pack.specs.Input.{shown, fits, verdictIn, judgedIn, reportIn, packRoom, inputRoom};
+ghost use Rattle.judge.specs.Judge.{judgement};
+ghost use Rattle.pack.specs.Words.{wordsIn};
+ghost use Rattle.pack.specs.Input.{shown, rightLength, packVerdict, judgedOf, reportOf};
+ghost use Rattle.pack.specs.Released.{ReleaseTold};
 
 mod words;
 
 use card::Build;
 use card::Card;
 use card::CardRead;
+use card::CardTest;
 use checks::Place;
 use checks::Rule;
 use checks::Verdict;
@@ -18,7 +29,6 @@ use report::ReportBuild;
 use report::Written;
 use units::Quadwords;
 use units::Slots;
-pub use words::load;
 
 // What the report is made of.
 pub struct Judged {
@@ -26,16 +36,15 @@ pub struct Judged {
     pub verdict: Verdict,
 }
 
-// Judges an input. 16,384 words of room are enough for any.
-pub fn judge_input(input: &[u8], room: &mut [u32]) -> Judged
-    ensures { λ r. ⌜ r ≡ judgedIn (length (now (room .entry))) (now (input .entry)) ⌝ }
-    ensures { λ _. ⌜ now (room .exit) ≡ inputRoom (now (input .entry)) (now (room .entry)) ⌝ }
+// Judges an input.
+pub fn judge_input(input: &[u8]) -> Judged
+    ensures { λ r. ⌜ r ≡ judgedOf (now (input .entry)) ⌝ }
 {
     let read = card::read_card(input);
     match read {
         CardRead::Whole(card, taken) => {
             let build = card.build;
-            let verdict = verdict_on(card, &input[taken..], room);
+            let verdict = verdict_in_range(card, &input[taken..]);
             Judged {
                 build: shown_build(build),
                 verdict,
@@ -43,55 +52,90 @@ pub fn judge_input(input: &[u8], room: &mut [u32]) -> Judged
         }
         CardRead::BadLine(n) => Judged {
             build: ReportBuild::Unknown,
-            verdict: Verdict::Refused {
-                rule: Rule::CardLine,
-                place: Place::Line(n),
-                slot: Slots(0),
-            },
+            verdict: refused(Rule::CardLine, Place::Line(n)),
         },
     }
 }
 
-// Judges an input and writes the report to the start of `out`; where it does not fit, `out` stays as it was.
-pub fn report_input(input: &[u8], room: &mut [u32], out: &mut [u8]) -> Written
-    ensures { λ r. ⌜ r ≡ writtenOf (reportIn (length (now (room .entry))) (now (input .entry))) (now (out .entry)) ⌝ }
-    ensures { λ _. ⌜ now (room .exit) ≡ inputRoom (now (input .entry)) (now (room .entry)) ⌝ }
-    ensures { λ _. ⌜ now (out .exit) ≡ bufferAfter (reportIn (length (now (room .entry))) (now (input .entry))) (now (out .entry)) ⌝ }
+// Judges an input and writes the report to the start of `out`; where it does not fit, `out` stays as it was. The bytes written say
+// release=yes exactly if the input is a production card and a pack that the judge accepts, and then every walk of the pack is safe.
+pub fn report_input(input: &[u8], out: &mut [u8]) -> Written
+    ensures { λ r. ⌜ r ≡ writtenOf (reportOf (now (input .entry))) (now (out .entry)) ⌝ }
+    ensures { λ _. ⌜ now (out .exit) ≡ bufferAfter (reportOf (now (input .entry))) (now (out .entry)) ⌝ }
+    ensures { λ r. ⌜ ((n : ℕ) → r ≡ Length n → ReleaseTold (now (input .entry)) (take n (now (out .exit)))) ⌝ }
 {
-    let judged = judge_input(input, room);
+    let judged = judge_input(input);
     let build = judged.build;
     let verdict = judged.verdict;
     report::write_report(build, verdict, out)
 }
 
-// The verdict on a pack in bytes.
-pub fn verdict_on(card: Card, pack: &[u8], room: &mut [u32]) -> Verdict
-    ensures { λ r. ⌜ r ≡ verdictIn (length (now (room .entry))) card (now (pack .entry)) ⌝ }
-    ensures { λ _. ⌜ now (room .exit) ≡ packRoom card (now (pack .entry)) (now (room .entry)) ⌝ }
+// The verdict on a pack in bytes. The card may have any figures: a line out of range is told before the pack's length.
+pub fn verdict_on(card: Card, pack: &[u8]) -> Verdict
+    ensures { λ r. ⌜ r ≡ packVerdict card (now (pack .entry)) ⌝ }
 {
-    if !is_judged(card.quads, pack.len(), room.len()) {
-        return Verdict::Refused {
-            rule: Rule::PackLength,
-            place: Place::Whole,
-            slot: Slots(0),
-        };
+    let test = card::check_card(card);
+    match test {
+        CardTest::BadLine(n) => refused(Rule::CardLine, Place::Line(n)),
+        CardTest::InRange => verdict_in_range(card, pack),
     }
-    let n = words::load(pack, room);
-    judge::judge(card, &room[..n])
 }
 
-// Whether a pack of so many bytes has the card's length, and its words have a place in so many words of room. The bytes are
-// divided, since 8 times a caller's quads may be more than a number holds.
-fn is_judged(quads: Quadwords, bytes: usize, room: usize) -> bool
-    ensures { λ r. ⌜ r ≡ fits quads bytes room ⌝ }
+// The same by a card whose figures are in range, as those of a card that was read are.
+fn verdict_in_range(card: Card, pack: &[u8]) -> Verdict
+    requires { ⌜ testOf card ≡ InRange ⌝ }
+    ensures { λ r. ⌜ r ≡ packVerdict card (now (pack .entry)) ⌝ }
+{
+    if !is_right_length(card.quads, pack.len()) {
+        return refused(Rule::PackLength, Place::Whole);
+    }
+    judge_words(card, pack)
+}
+
+// By division, since 8 times any quads may be more than a number holds.
+fn is_right_length(quads: Quadwords, bytes: usize) -> bool
+    ensures { λ r. ⌜ r ≡ rightLength quads bytes ⌝ }
 {
     if bytes % 8 != 0 {
         return false;
     }
-    if bytes / 8 != quads.0 {
-        return false;
+    bytes / 8 == quads.0
+}
+
+// Most packs are short, and to clear room for a long one would cost more than to judge them.
+fn judge_words(card: Card, pack: &[u8]) -> Verdict
+    requires { ⌜ length (now pack) / 4 ≤ 16384 ⌝ }
+    ensures { λ r. ⌜ r ≡ judgement card (wordsIn (now (pack .entry))) ⌝ }
+{
+    let n = pack.len() / 4;
+    if n <= 128 {
+        let mut room = [0u32; 128];
+        return judge_in(card, pack, &mut room);
     }
-    bytes / 4 <= room
+    if n <= 1024 {
+        let mut room = [0u32; 1024];
+        return judge_in(card, pack, &mut room);
+    }
+    let mut room = [0u32; 16384];
+    judge_in(card, pack, &mut room)
+}
+
+fn judge_in(card: Card, pack: &[u8], room: &mut [u32]) -> Verdict
+    requires { ⌜ length (now pack) / 4 ≤ length (now room) ⌝ }
+    ensures { λ r. ⌜ r ≡ judgement card (wordsIn (now (pack .entry))) ⌝ }
+{
+    let n = words::load(pack, room);
+    judge::judge(card, &room[..n])
+}
+
+fn refused(rule: Rule, place: Place) -> Verdict
+    ensures { λ r. ⌜ r ≡ Refused rule place (counts.slots 0) ⌝ }
+{
+    Verdict::Refused {
+        rule,
+        place,
+        slot: Slots(0),
+    }
 }
 
 fn shown_build(build: Build) -> ReportBuild

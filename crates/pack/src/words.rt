@@ -1,15 +1,16 @@
 // A pack's bytes as words.
 ghost use mathlib.Core.Path.{_≡_};
-ghost use Prim.Native.Nat.{_+_, _<_, _≤_, min};
-ghost use lib.ListN.{length};
-ghost use Rattle.pack.specs.Words.{wordAt, loadedCount, loaded};
+ghost use Prim.Native.Nat.{_+_, _/_, _<_, _≤_};
+ghost use lib.ListN.{length, take};
+ghost use Rattle.pack.specs.Words.{wordsIn, wordAt};
 
-// Puts the words of `bytes` at the start of `words`, as many as there are and have a place there, and answers how many.
-pub fn load(bytes: &[u8], words: &mut [u32]) -> usize
-    ensures { λ r. ⌜ r ≡ loadedCount (now (bytes .entry)) (now (words .entry)) ⌝ }
-    ensures { λ _. ⌜ now (words .exit) ≡ loaded (now (bytes .entry)) (now (words .entry)) ⌝ }
+// Puts the words of `bytes` at the start of `words`, and answers how many they are.
+pub(crate) fn load(bytes: &[u8], words: &mut [u32]) -> usize
+    requires { ⌜ length (now bytes) / 4 ≤ length (now words) ⌝ }
+    ensures { λ r. ⌜ r ≡ length (now (bytes .entry)) / 4 ⌝ }
+    ensures { λ r. ⌜ take r (now (words .exit)) ≡ wordsIn (now (bytes .entry)) ⌝ }
 {
-    let n = least(bytes.len() / 4, words.len());
+    let n = bytes.len() / 4;
     let mut i = 0;
     while i < n {
         words[i] = word_at(bytes, i * 4);
@@ -31,10 +32,4 @@ fn wide(b: u8) -> u32
     ensures { λ r. ⌜ (r ≡ b) × (r < 256) ⌝ }
 {
     b as u32
-}
-
-fn least(a: usize, b: usize) -> usize
-    ensures { λ r. ⌜ r ≡ min a b ⌝ }
-{
-    if a < b { a } else { b }
 }

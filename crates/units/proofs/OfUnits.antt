@@ -7,7 +7,7 @@ use native.Mathlib.Omega.{arith}
 use lib.Dec.{leb}
 use borrow.Author.Tests.{leb-true, leb-false, le-leb, lt-leb}
 use Rattle.units.specs.declared.Quadwords.{Quadwords}
-use Rattle.units.specs.Units.{quadwords, slots, words, capped, lowWord, highWord, counted, slotsLength, fetchesLength, rangeEnd, isAtMost}
+use Rattle.units.specs.Units.{quadwords, slots, words, capped, quadwordsIn64, wordsIn64, quadwordBehind, lowWord, highWord, counted, slotsLength, fetchesLength, rangeEnd, isAtMost}
 
 pub capped-exact : (n : ℕ) → n < 2 ^ 64 → capped n ≡ n
 capped-exact n h = omega arith
@@ -20,16 +20,18 @@ capped-leb n limit h = by (leb n limit) refl
     by true e = le-leb (capped n) limit (omega (arith, leb-true n limit e))
     by false e = lt-leb (capped n) limit (omega (arith, leb-false n limit e))
 
--- the end of a range is the true sum for any start and length of 32 bits
-pub range-end-exact : (start length : Quadwords) → start .0 < 2 ^ 32 → length .0 < 2 ^ 32 → rangeEnd start length ≡ quadwords (start .0 + length .0)
-range-end-exact start length h k = ap quadwords (capped-exact (start .0 + length .0) (omega arith))
-
--- and the two words of a quadword are the true ones for any that a buffer can have
-pub low-word-exact : (q : Quadwords) → q .0 < 2 ^ 63 → lowWord q ≡ words (2 * q .0)
+-- the two words of a quadword are the true ones for any that a buffer can have
+pub low-word-exact : (q : Quadwords) → q .0 < 2 ^ 63 → wordsIn64 (lowWord q) ≡ lowWord q
 low-word-exact q h = ap words (capped-exact (2 * q .0) (omega arith))
 
-pub high-word-exact : (q : Quadwords) → q .0 < 2 ^ 63 → highWord q ≡ words (2 * q .0 + 1)
+pub high-word-exact : (q : Quadwords) → q .0 < 2 ^ 63 → wordsIn64 (highWord q) ≡ highWord q
 high-word-exact q h = ap words (capped-exact (2 * q .0 + 1) (omega arith))
+
+-- and the next quadword is the true one
+pub behind-exact : (p r : Quadwords) → r ≡ quadwordsIn64 (quadwordBehind p) → p .0 < 2 ^ 64 - 1 → r .0 ≡ p .0 + 1
+behind-exact p r f h =
+    let b : r .0 ≡ capped (p .0 + 1) = ap (λ (x : Quadwords). x .0) f in
+    omega arith
 
 -- ---- worked examples, by computation
 
@@ -49,5 +51,5 @@ third-pair : (lowWord (quadwords 2) ≡ words 4) × (highWord (quadwords 2) ≡ 
 third-pair = (refl, refl)
 
 -- past 64 bits: the largest number, and not a small one
-past-the-cap : rangeEnd (quadwords (2 ^ 64 - 1)) (quadwords 3) ≡ quadwords (2 ^ 64 - 1)
+past-the-cap : wordsIn64 (lowWord (quadwords (2 ^ 64 - 1))) ≡ words (2 ^ 64 - 1)
 past-the-cap = refl

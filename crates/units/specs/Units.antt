@@ -2,7 +2,9 @@
 -- lengths of rule 6. Nothing here adds one unit to another except where the paper does.
 use Prim.Native.Nat.{ℕ, _+_, _*_, _/_, _-_, _^_, min}
 use mathlib.Core.Bool.{Bool}
+use mathlib.Core.List.{List}
 use lib.Dec.{ltb, leb}
+use lib.ListN.{getD}
 use Rattle.units.specs.declared.Quadwords.{Quadwords}
 use Rattle.units.specs.declared.Slots.{Slots}
 use Rattle.units.specs.declared.Words.{Words}
@@ -17,55 +19,92 @@ slots n = record { 0 = n }
 abbrev pub words : ℕ → Words
 words n = record { 0 = n }
 
--- n, or the largest number of 64 bits where n is larger still
-abbrev pub capped : ℕ → ℕ
-capped n = min n (2 ^ 64 - 1)
+-- ---- quadwords and words
 
 -- quadword q is words 2q (low) and 2q+1 (high)
 abbrev pub lowWord : Quadwords → Words
-lowWord q = words (capped (2 * q .0))
+lowWord q = words (2 * q .0)
 
 abbrev pub highWord : Quadwords → Words
-highWord q = words (capped (2 * q .0 + 1))
+highWord q = words (2 * q .0 + 1)
+
+-- so of a list of words quadword p is these two; 0 where there is none
+unfoldable pub lowAt : List ℕ → ℕ → ℕ
+lowAt w p = getD w (lowWord (quadwords p) .0) 0
+
+unfoldable pub highAt : List ℕ → ℕ → ℕ
+highAt w p = getD w (highWord (quadwords p) .0) 0
 
 -- the words that q quadwords take
 abbrev pub wordsOf : Quadwords → Words
-wordsOf q = words (capped (2 * q .0))
+wordsOf q = words (2 * q .0)
 
 -- the quadwords that lie wholly in n words
 abbrev pub wholeQuadwords : Words → Quadwords
 wholeQuadwords n = quadwords (n .0 / 2)
 
+-- ---- slots, and where they stand
+
 -- COUNT is one less than what it counts: slots (ALU) or fetches
 abbrev pub counted : Slots → Slots
-counted field = slots (capped (field .0 + 1))
+counted field = slots (field .0 + 1)
 
 -- a slot takes one quadword, a fetch two
 abbrev pub slotsLength : Slots → Quadwords
 slotsLength n = quadwords (n .0)
 
 abbrev pub fetchesLength : Slots → Quadwords
-fetchesLength n = quadwords (capped (2 * n .0))
+fetchesLength n = quadwords (2 * n .0)
 
 -- the slot of a clause's i-th fetch, from 0: its first quadword in the clause
 abbrev pub fetchSlot : Slots → Slots
-fetchSlot i = slots (capped (2 * i .0))
+fetchSlot i = slots (2 * i .0)
 
 -- the slot n slots behind s
 abbrev pub slotBehind : Slots → Slots → Slots
-slotBehind s n = slots (capped (s .0 + n .0))
+slotBehind s n = slots (s .0 + n .0)
 
--- the quadword behind a range of quadwords
-abbrev pub rangeEnd : Quadwords → Quadwords → Quadwords
-rangeEnd start length = quadwords (capped (start .0 + length .0))
+-- of n slots, those from slot s on
+abbrev pub slotsLeft : Slots → Slots → Slots
+slotsLeft n s = slots (n .0 - s .0)
 
 -- the quadword of slot s of a clause that starts at a quadword
 abbrev pub slotQuadword : Quadwords → Slots → Quadwords
-slotQuadword start s = quadwords (capped (start .0 + s .0))
+slotQuadword start s = quadwords (start .0 + s .0)
 
--- a < b and a ≤ b, of quadwords
+-- ---- ranges of quadwords, and places in a row
+
+-- the quadword behind a range
+abbrev pub rangeEnd : Quadwords → Quadwords → Quadwords
+rangeEnd start size = quadwords (start .0 + size .0)
+
+-- the next quadword, and the one before (that of 0 is 0)
+abbrev pub quadwordBehind : Quadwords → Quadwords
+quadwordBehind q = quadwords (q .0 + 1)
+
+abbrev pub quadwordBefore : Quadwords → Quadwords
+quadwordBefore q = quadwords (q .0 - 1)
+
+-- a < b and a ≤ b, of quadwords; a < b of slots
 abbrev pub isBelow : Quadwords → Quadwords → Bool
 isBelow a b = ltb (a .0) (b .0)
 
 abbrev pub isAtMost : Quadwords → Quadwords → Bool
 isAtMost a b = leb (a .0) (b .0)
+
+abbrev pub isSlotBelow : Slots → Slots → Bool
+isSlotBelow a b = ltb (a .0) (b .0)
+
+-- ---- what the code answers: the count, or the largest number of 64 bits where the count is larger still
+
+abbrev pub capped : ℕ → ℕ
+capped n = min n (2 ^ 64 - 1)
+
+abbrev pub quadwordsIn64 : Quadwords → Quadwords
+quadwordsIn64 n = quadwords (capped (n .0))
+
+abbrev pub slotsIn64 : Slots → Slots
+slotsIn64 n = slots (capped (n .0))
+
+abbrev pub wordsIn64 : Words → Words
+wordsIn64 n = words (capped (n .0))

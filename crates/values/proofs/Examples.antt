@@ -14,32 +14,35 @@ copy : List ℕ
 copy = 0x0000_0002 ∷ 0xa000_0000 ∷ 0x0000_0000 ∷ 0x0020_0000 ∷ 0x8000_0000 ∷ 0x0020_0c90 ∷ []
 
 sevens : List ℕ
-sevens = replicate 25 7
+sevens = replicate 33 7
 
--- ALU of one slot at quadword 2: form 0, ADDR 2, number 8, BARRIER; eleven elements and one stay
-opener : (decodedNumber 0 copy 0 sevens ≡ 0) × (decodedValues 0 copy 0 sevens ≡ (0 ∷ 2 ∷ 0 ∷ 0 ∷ 0 ∷ 0 ∷ 0 ∷ 0 ∷ 0 ∷ 0 ∷ 8 ∷ 0 ∷ 1 ∷ []) ++ replicate 12 7)
+-- ALU of one slot at quadword 2: form 0, ADDR 2, number 8, BARRIER; twenty elements stay
+opener : (decodedNumber 0 copy 0 sevens ≡ 0) × (decodedValues 0 copy 0 sevens ≡ (0 ∷ 2 ∷ 0 ∷ 0 ∷ 0 ∷ 0 ∷ 0 ∷ 0 ∷ 0 ∷ 0 ∷ 8 ∷ 0 ∷ 1 ∷ []) ++ replicate 20 7)
 unfolding copy sevens streamNumbered decodedInto roomy decodeOf room cfPairOf openerPairOf plainPairOf cfAluTaken cfTaken exportTaken cfAlu cf exports
 opener = (refl, refl)
 
--- MOV of register 0 to register 1: form 3, LAST, WRITE_MASK, number 25, DST_GPR 1; one element stays
+-- MOV of register 0 to register 1: form 3, LAST, WRITE_MASK, number 25, DST_GPR 1; nine elements stay
 mov : List ℕ
 mov = 3 ∷ 0 ∷ 0 ∷ 0 ∷ 0 ∷ 0 ∷ 0 ∷ 0 ∷ 0 ∷ 0 ∷ 0 ∷ 1 ∷ 0 ∷ 0 ∷ 0 ∷ 0 ∷ 1 ∷ 0 ∷ 25 ∷ 0 ∷ 1 ∷ 0 ∷ 0 ∷ 0 ∷ []
 
-mov-decoded : (decodedNumber 1 copy 4 sevens ≡ 0) × (decodedValues 1 copy 4 sevens ≡ mov ++ (7 ∷ []))
+mov-decoded : (decodedNumber 1 copy 4 sevens ≡ 0) × (decodedValues 1 copy 4 sevens ≡ mov ++ replicate 9 7)
 unfolding copy sevens mov streamNumbered decodedInto roomy decodeOf room aluPairOf op2PairOf op3PairOf op2Class op3Class op2 op3
 mov-decoded = (refl, refl)
 
 -- a pair that isn't wholly in the words: 2, also where there is no room for values; else 20 where there is none
-refused : (decodedNumber 1 copy 5 [] ≡ 2) × (decodedNumber 1 copy 4 (replicate 23 7) ≡ 20) × (decodedValues 1 copy 4 (replicate 23 7) ≡ replicate 23 7)
+refused : (decodedNumber 1 copy 5 [] ≡ 2) × (decodedNumber 1 copy 4 (replicate 31 7) ≡ 20) × (decodedValues 1 copy 4 (replicate 31 7) ≡ replicate 31 7)
 unfolding copy streamNumbered decodedInto roomy decodeOf room aluPairOf op2PairOf op3PairOf op2Class op3Class op2 op3
 refused = (refl, refl, refl)
 
+movRow : List ℕ
+movRow = mov ++ replicate 8 7
+
 -- the MOV written behind the first of three words; at 2 it has no room
-mov-encoded : (encodedNumber mov (7 ∷ 7 ∷ 7 ∷ []) 1 ≡ 0) × (encodedWords mov (7 ∷ 7 ∷ 7 ∷ []) 1 ≡ 7 ∷ 0x8000_0000 ∷ 0x0020_0c90 ∷ []) × (encodedNumber mov (7 ∷ 7 ∷ 7 ∷ []) 2 ≡ 20) × (encodedWords mov (7 ∷ 7 ∷ 7 ∷ []) 2 ≡ 7 ∷ 7 ∷ 7 ∷ [])
-unfolding mov encodedFrom encodedWords isRecord roomy recordOf encodeAnswer encodeWords putAnswer putWords room op2Class op3Class op2 op3 alu.word0Table alu.op2Table
+mov-encoded : (encodedNumber movRow (7 ∷ 7 ∷ 7 ∷ []) 1 ≡ 0) × (encodedWords movRow (7 ∷ 7 ∷ 7 ∷ []) 1 ≡ 7 ∷ 0x8000_0000 ∷ 0x0020_0c90 ∷ []) × (encodedNumber movRow (7 ∷ 7 ∷ 7 ∷ []) 2 ≡ 20) × (encodedWords movRow (7 ∷ 7 ∷ 7 ∷ []) 2 ≡ 7 ∷ 7 ∷ 7 ∷ [])
+unfolding mov movRow encodedFrom encodedWords isRecord roomy recordOf encodeAnswer encodeWords putAnswer putWords room op2Class op3Class op2 op3 alu.word0Table alu.op2Table
 mov-encoded = (refl, refl, refl, refl)
 
--- 21, before 20: SRC0_SEL of ten bits, form 5, 23 values
-not-encoded : (encodedNumber (3 ∷ 512 ∷ replicate 22 0) [] 0 ≡ 21) × (encodedNumber (5 ∷ replicate 23 0) [] 0 ≡ 21) × (encodedNumber (replicate 23 0) [] 0 ≡ 21)
+-- 21, before 20: SRC0_SEL of ten bits, form 5, 31 values
+not-encoded : (encodedNumber (3 ∷ 512 ∷ replicate 30 0) [] 0 ≡ 21) × (encodedNumber (5 ∷ replicate 31 0) [] 0 ≡ 21) × (encodedNumber (replicate 31 0) [] 0 ≡ 21)
 unfolding encodedFrom isRecord roomy recordOf encodeAnswer putAnswer room op2Class op3Class op2 op3 alu.word0Table alu.op2Table
 not-encoded = (refl, refl, refl)

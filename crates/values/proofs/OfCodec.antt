@@ -8,7 +8,6 @@ use borrow.Author.Tests.{le-leb, lt-leb}
 use Rattle.units.specs.Units.{words}
 use Rattle.checks.specs.declared.Rule.{Rule}
 use Rattle.checks.specs.declared.Rule.the-variants.{EncodeRoom, EncodeRecord}
-use Rattle.checks.specs.declared.Verdict.{Verdict}
 use Rattle.checks.specs.Verdict.{numberOf, verdictNumber}
 use Rattle.microcode.specs.declared.Instruction.{Instruction}
 use Rattle.microcode.specs.declared.Decoded.{Decoded}
@@ -16,15 +15,15 @@ use Rattle.microcode.specs.declared.Decoded.the-variants.{Refused, Taken}
 use Rattle.microcode.specs.declared.Encoded.{Encoded}
 use Rattle.microcode.specs.declared.Stream.{Stream}
 use Rattle.microcode.specs.Codec.{decodeOf, decodedVerdict, encodeAnswer, encodeWords, encodedVerdict}
-use Rattle.values.specs.Values.{valuesOf, written, formOf, recordOf, roomy, isRecord, streamNumbered, lent, after, decodedInto, decodedNumber, decodedValues, encodedFrom, encodedNumber, encodedWords}
+use Rattle.values.specs.Values.{valuesOf, rowLength, written, formOf, recordOf, roomy, isRecord, streamNumbered, lent, after, decodedInto, decodedNumber, decodedValues, encodedFrom, encodedNumber, encodedWords}
 
-roomy-yes : (vs : List ℕ) → 24 ≤ length vs → roomy vs ≡ true
+roomy-yes : (vs : List ℕ) → rowLength ≤ length vs → roomy vs ≡ true
 unfolding roomy
-roomy-yes vs h = le-leb 24 (length vs) h
+roomy-yes vs h = le-leb rowLength (length vs) h
 
-roomy-no : (vs : List ℕ) → length vs < 24 → roomy vs ≡ false
+roomy-no : (vs : List ℕ) → length vs < rowLength → roomy vs ≡ false
 unfolding roomy
-roomy-no vs h = lt-leb 24 (length vs) h
+roomy-no vs h = lt-leb rowLength (length vs) h
 
 -- ---- decoding
 
@@ -32,10 +31,10 @@ module _ (i : Instruction) (vs : List ℕ) where
   pub filled : (j : Instruction) (row m : List ℕ) → m ≡ written row vs → row ≡ valuesOf j → i ≡ j → m ≡ written (valuesOf i) vs
   filled j row m e f g = e ∙ ap (λ (r : List ℕ). written r vs) (f ∙ ap valuesOf (sym g))
 
-  pub write-short : (n : ℕ) → length vs < 24 → n ≡ numberOf EncodeRoom → (n ≡ verdictNumber (decodedVerdict (lent (Taken i) vs))) × (vs ≡ after (lent (Taken i) vs) vs)
+  pub write-short : (n : ℕ) → length vs < rowLength → n ≡ numberOf EncodeRoom → (n ≡ verdictNumber (decodedVerdict (lent (Taken i) vs))) × (vs ≡ after (lent (Taken i) vs) vs)
   write-short n h e = (rw (roomy-no vs h) e, rw (roomy-no vs h))
 
-  pub write-all : (m : List ℕ) → 24 ≤ length vs → m ≡ written (valuesOf i) vs → (0 ≡ verdictNumber (decodedVerdict (lent (Taken i) vs))) × (m ≡ after (lent (Taken i) vs) vs)
+  pub write-all : (m : List ℕ) → rowLength ≤ length vs → m ≡ written (valuesOf i) vs → (0 ≡ verdictNumber (decodedVerdict (lent (Taken i) vs))) × (m ≡ after (lent (Taken i) vs) vs)
   write-all m h e = (rw (roomy-yes vs h), rw (roomy-yes vs h) e)
 
 module _ (stream : ℕ) (l : List ℕ) (start : ℕ) (vs : List ℕ) (s : Stream) (d : Decoded) (e : s ≡ streamNumbered stream) (f : d ≡ decodeOf s l (words start)) where
@@ -60,19 +59,19 @@ module _ (vs l : List ℕ) (start : ℕ) where
   unfolding encodedFrom encodedWords
   no-record n h e = (rw h e, rw h)
 
-  pub encode-short : (n : ℕ) → length vs < 24 → n ≡ numberOf EncodeRecord → (n ≡ encodedNumber vs l start) × (l ≡ encodedWords vs l start)
+  pub encode-short : (n : ℕ) → length vs < rowLength → n ≡ numberOf EncodeRecord → (n ≡ encodedNumber vs l start) × (l ≡ encodedWords vs l start)
   unfolding isRecord
   encode-short n h e = no-record n (rw (roomy-no vs h)) e
 
-  pub encode-other-form : (n : ℕ) → 24 ≤ length vs → 4 < formOf vs → n ≡ numberOf EncodeRecord → (n ≡ encodedNumber vs l start) × (l ≡ encodedWords vs l start)
+  pub encode-other-form : (n : ℕ) → rowLength ≤ length vs → 4 < formOf vs → n ≡ numberOf EncodeRecord → (n ≡ encodedNumber vs l start) × (l ≡ encodedWords vs l start)
   unfolding isRecord
   encode-other-form n h k e = no-record n (rw (roomy-yes vs h) (lt-leb (formOf vs) 4 k)) e
 
-  pub encode-record : (i : Instruction) (x : Encoded) (v : Verdict) (n : ℕ) (m : List ℕ) → 24 ≤ length vs → formOf vs ≤ 4 → i ≡ recordOf vs → x ≡ encodeAnswer i l (words start) → m ≡ encodeWords i l (words start) → v ≡ encodedVerdict x → n ≡ verdictNumber v → (n ≡ encodedNumber vs l start) × (m ≡ encodedWords vs l start)
+  pub encode-record : (i : Instruction) (x y : Encoded) (n : ℕ) (m : List ℕ) → rowLength ≤ length vs → formOf vs ≤ 4 → i ≡ recordOf vs → x ≡ encodeAnswer i l (words start) → m ≡ encodeWords i l (words start) → x ≡ y → n ≡ verdictNumber (encodedVerdict y) → (n ≡ encodedNumber vs l start) × (m ≡ encodedWords vs l start)
   unfolding isRecord encodedFrom encodedWords
-  encode-record i x v n m h k e f g p q =
+  encode-record i x y n m h k e f g p q =
       let b = roomy-yes vs h in
       let c = le-leb (formOf vs) 4 k in (
-        rw (b, c) (q ∙ ap verdictNumber (p ∙ ap encodedVerdict (f ∙ ap (λ (j : Instruction). encodeAnswer j l (words start)) e))),
+        rw (b, c) (q ∙ ap (λ (z : Encoded). verdictNumber (encodedVerdict z)) (sym p ∙ f ∙ ap (λ (j : Instruction). encodeAnswer j l (words start)) e)),
         rw (b, c) (g ∙ ap (λ (j : Instruction). encodeWords j l (words start)) e),
       )

@@ -1,6 +1,6 @@
 -- The codec's round trips through values: what was decoded encodes to the same words, and what was encoded decodes to the same values.
 -- Both rest on microcode's round trips; what is new is that a record is what its values say. Assumes nothing.
-use mathlib.Core.Path.{_≡_, refl, sym, ap, _∙_}
+use mathlib.Core.Path.{_≡_, refl, sym, ap, _∙_, subst}
 use mathlib.Core.Bool.{Bool, true, false, _&&_}
 use mathlib.Core.List.{List, [], _∷_, _++_, map}
 use Prim.Native.Nat.{ℕ, zero, suc, _+_, _%_, _/_, _^_, _≤_, _<_}
@@ -10,7 +10,6 @@ use lib.Dec.{eqb, leb, ltb}
 use lib.ListN.{length, getD, drop, length-append, length-drop}
 use lib.Seq.{drop-cons}
 use borrow.Author.Tests.{ltb-true, leb-true, le-leb, eqb-true, eqb-false}
-use Rattle.units.specs.declared.Words.{Words}
 use Rattle.units.specs.Units.{words}
 use Rattle.checks.specs.declared.Rule.{Rule}
 use Rattle.checks.specs.declared.Rule.the-variants.{EncodeRoom, EncodeRecord}
@@ -31,9 +30,9 @@ use Rattle.microcode.specs.declared.Decoded.the-variants as decoded
 use Rattle.microcode.specs.declared.Encoded.{Encoded}
 use Rattle.microcode.specs.declared.Encoded.the-variants as encoded
 use Rattle.microcode.specs.Pair.{encodable, streamOf}
-use Rattle.microcode.specs.Codec.{room, decodeOf, decodedVerdict, putAnswer, encodeAnswer, encodedVerdict}
-use Rattle.microcode.proofs.RoundTrip.{by-test, words-again, record-again-at}
-use Rattle.values.specs.Values.{valuesOf, written, formOf, recordOf, roomy, isRecord, cfAluWord0At, cfAluWord1At, cfWord0At, cfWord1At, exportWord0At, exportWord1At, aluWord0At, op2At, op3At, streamNumbered, lent, decodedInto, decodedNumber, decodedValues, encodedFrom, encodedNumber, encodedWords}
+use Rattle.microcode.specs.Codec.{decodeOf, decodedVerdict, encodeAnswer, encodedVerdict}
+use Rattle.microcode.proofs.RoundTrip.{by-test, words-again, done-fits, record-again-at}
+use Rattle.values.specs.Values.{valuesOf, written, formOf, recordOf, rowLength, roomy, isRecord, cfAluWord0At, cfAluWord1At, cfWord0At, cfWord1At, exportWord0At, exportWord1At, aluWord0At, op2At, op3At, streamNumbered, lent, decodedInto, decodedNumber, decodedValues, encodedFrom, encodedNumber, encodedWords, WordsAgain, RowAgain}
 
 -- ---- a record and its values
 
@@ -113,9 +112,9 @@ record-room vs r = both (roomy vs) (leb (formOf vs) 4) r .0
 
 -- the values of the record that was read from values are those, and written over them they change none
 module _ (vs : List ℕ) (r : isRecord vs ≡ true) (h : encodable (recordOf vs) ≡ true) where
-  long : 24 ≤ length vs
+  long : rowLength ≤ length vs
   unfolding roomy
-  long = leb-true 24 (length vs) (record-room vs r)
+  long = leb-true rowLength (length vs) (record-room vs r)
 
   form-4 : formOf vs ≤ 4
   unfolding isRecord
@@ -151,9 +150,6 @@ module _ (vs : List ℕ) (r : isRecord vs ≡ true) (h : encodable (recordOf vs)
 
 -- ---- the round trips
 
-never-done : {A : Type 0} {rule : Rule} → encoded.Refused rule ≡ encoded.Done → A
-never-done e = let z : _≡_ {A = ℕ} 0 1 = cc in absurd (omega arith)
-
 never-zero : {A : Type 0} (rule : Rule) → numberOf rule ≡ 0 → A
 never-zero rule h =
     let e = accepted-zero (decodedVerdict (decoded.Refused rule)) .1 h in
@@ -169,14 +165,6 @@ done-with : (x : Encoded) → verdictNumber (encodedVerdict x) ≡ 0 → x ≡ e
 done-with (encoded.Refused rule) h = never-zero rule h
 done-with encoded.Done h = refl
 
--- what the encoder's answer says of the record and the room
-done-fits : (i : Instruction) (l : List ℕ) (start : Words) → encodeAnswer i l start ≡ encoded.Done → (encodable i ≡ true) × (room l (start .0) ≡ true)
-unfolding encodeAnswer putAnswer
-done-fits i l start h =
-    by-test (encodable i)
-    (λ t. by-test (room l (start .0)) (λ u. (t, u)) (λ u. never-done (rw (t, u) at h)))
-    (λ t. never-done (rw t at h))
-
 -- the values of a record, with room behind them, are a record's
 form-of-values : (i : Instruction) (pad : List ℕ) → leb (formOf (valuesOf i ++ pad)) 4 ≡ true
 form-of-values (CfAlu a b) pad = refl
@@ -189,32 +177,52 @@ written-record : (i : Instruction) (vs : List ℕ) → roomy vs ≡ true → isR
 unfolding isRecord roomy
 written-record i vs h =
     let n = length (valuesOf i) in
-    let k : 24 ≤ length vs = leb-true 24 (length vs) h in
-    let l : 24 ≤ length (written (valuesOf i) vs) = omega (arith, length-append (valuesOf i) (drop n vs), length-drop n vs) in
-    rw (le-leb 24 (length (written (valuesOf i) vs)) l) (form-of-values i (drop n vs))
+    let k : rowLength ≤ length vs = leb-true rowLength (length vs) h in
+    let l : rowLength ≤ length (written (valuesOf i) vs) = omega (arith, length-append (valuesOf i) (drop n vs), length-drop n vs) in
+    rw (le-leb rowLength (length (written (valuesOf i) vs)) l) (form-of-values i (drop n vs))
 
 -- words that were decoded, encoded from their values at the same place: 0, and every word is as it was. The premise on the words is that
 -- they have 32 bits
-pub values-round-trip : (stream : ℕ) (l : List ℕ) (start : ℕ) (vs : List ℕ) → ((k : ℕ) → getD l k 0 < 2 ^ 32) → decodedNumber stream l start vs ≡ 0 → (encodedNumber (decodedValues stream l start vs) l start ≡ 0) × (encodedWords (decodedValues stream l start vs) l start ≡ l)
+pub values-round-trip : (stream : ℕ) (l : List ℕ) (start : ℕ) (vs : List ℕ) → ((k : ℕ) → getD l k 0 < 2 ^ 32) → decodedNumber stream l start vs ≡ 0 → WordsAgain (decodedValues stream l start vs) l start
 unfolding decodedInto encodedFrom encodedWords
 values-round-trip stream l start vs small h =
     taken-with vs (decodeOf (streamNumbered stream) l (words start)) h
     (λ i e t.
     let again = words-again i l (words start) (streamNumbered stream) small e in
-    let fit = done-fits i l (words start) (again .0) .0 in
+    let fit = done-fits i l (words start) (again .done) .0 in
     let same = record-of-values i (drop (length (valuesOf i)) vs) fit in
     let is = written-record i vs t in
-    (rw (e, t, is, same, again .0), rw (e, t, is, same) (again .1)))
+    record { number = rw (e, t, is, same, again .done); same = rw (e, t, is, same) (again .same) })
 
 -- values that were encoded, decoded from their place in the record's stream: 0, and every value is as it was
-pub words-round-trip : (stream : ℕ) (l : List ℕ) (start : ℕ) (vs : List ℕ) → streamNumbered stream ≡ streamOf (recordOf vs) → encodedNumber vs l start ≡ 0 → (decodedNumber stream (encodedWords vs l start) start vs ≡ 0) × (decodedValues stream (encodedWords vs l start) start vs ≡ vs)
+pub words-round-trip : (stream : ℕ) (l : List ℕ) (start : ℕ) (vs : List ℕ) → streamNumbered stream ≡ streamOf (recordOf vs) → encodedNumber vs l start ≡ 0 → RowAgain stream (encodedWords vs l start) start vs
 unfolding decodedInto encodedFrom encodedWords
 words-round-trip stream l start vs s h =
     by-test (isRecord vs)
     (λ t.
     let d = done-with (encodeAnswer (recordOf vs) l (words start)) (rw t at h) in
     let fit = done-fits (recordOf vs) l (words start) d in
-    let again = record-again-at (recordOf vs) l (words start) (fit .0) (fit .1) .1 in
+    let again = record-again-at (recordOf vs) l (words start) d in
     let u : roomy vs ≡ true = record-room vs t in
-    (rw (t, s, again, u), rw (t, s, again, u) (values-of-record vs t (fit .0))))
+    record { number = rw (t, s, again, u); same = rw (t, s, again, u) (values-of-record vs t (fit .0)) })
     (λ t. never-zero EncodeRecord (rw t at h))
+
+-- ---- what the two functions promise besides their answers and what they leave
+
+pub decode-promises : (stream : ℕ) (l : List ℕ) (start : ℕ) (vs : List ℕ) (n : ℕ) (m : List ℕ) → ((k : ℕ) → getD l k 0 < 2 ^ 32) → (n ≡ decodedNumber stream l start vs) × (m ≡ decodedValues stream l start vs) → (n ≡ decodedNumber stream l start vs) × ((m ≡ decodedValues stream l start vs) × (n ≡ 0 → WordsAgain m l start))
+decode-promises stream l start vs n m small e = (
+  e .0,
+  (
+    e .1,
+    λ h. subst (λ (x : List ℕ). WordsAgain x l start) (sym (e .1)) (values-round-trip stream l start vs small (sym (e .0) ∙ h)),
+  ),
+)
+
+pub encode-promises : (vs l : List ℕ) (start n : ℕ) (m : List ℕ) → (n ≡ encodedNumber vs l start) × (m ≡ encodedWords vs l start) → (n ≡ encodedNumber vs l start) × ((m ≡ encodedWords vs l start) × (n ≡ 0 → (stream : ℕ) → streamNumbered stream ≡ streamOf (recordOf vs) → RowAgain stream m start vs))
+encode-promises vs l start n m e = (
+  e .0,
+  (
+    e .1,
+    λ h stream s. subst (λ (x : List ℕ). RowAgain stream x start vs) (sym (e .1)) (words-round-trip stream l start vs s (sym (e .0) ∙ h)),
+  ),
+)

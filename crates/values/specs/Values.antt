@@ -1,6 +1,7 @@
 -- The codec with rows of values: an instruction as a row of values of 32 bits, and what the two functions answer and leave in what is lent to
 -- them. Both go by the decoder and the encoder of crate microcode: document 01, "Numbers and what they mean".
 use Prim.Native.Nat.{ℕ, _%_, _^_}
+use mathlib.Core.Path.{_≡_}
 use mathlib.Core.Bool.{Bool, cond, _&&_}
 use mathlib.Core.List.{List, [], _∷_, _++_}
 use lib.Dec.{eqb, leb}
@@ -218,9 +219,12 @@ recordOf vs =
     (cond (eqb (formOf vs) 2) (Export (exportWord0At vs) (exportWord1At vs))
     (cond (eqb (formOf vs) 3) (Op2 (aluWord0At vs) (op2At vs)) (Op3 (aluWord0At vs) (op3At vs)))))
 
--- 24 elements hold every form
+-- a row has 32 elements or more, whatever its form; the longest takes 24 of them
+abbrev pub rowLength : ℕ
+rowLength = 32
+
 unfoldable pub roomy : List ℕ → Bool
-roomy vs = leb 24 (length vs)
+roomy vs = leb rowLength (length vs)
 
 unfoldable pub isRecord : List ℕ → Bool
 isRecord vs = roomy vs && leb (formOf vs) 4
@@ -231,7 +235,7 @@ isRecord vs = roomy vs && leb (formOf vs) 4
 unfoldable pub streamNumbered : ℕ → Stream
 streamNumbered n = cond (eqb n 0) ControlFlow Alu
 
--- what the decoder answers, and 20 where a record finds fewer than 24 elements: room is asked for last, as the encoder does
+-- what the decoder answers, and 20 where a record finds a shorter row: room is asked for last, as the encoder does
 abbrev pub lent : Decoded → List ℕ → Decoded
 lent (decoded.Refused rule) vs = decoded.Refused rule
 lent (decoded.Taken i) vs = cond (roomy vs) (decoded.Taken i) (decoded.Refused EncodeRoom)
@@ -256,7 +260,7 @@ decodedValues stream l start vs = after (decodedInto stream l start vs) vs
 
 -- ---- encoding
 
--- what the encoder answers, and 21 before that where 24 elements or a form are missing
+-- what the encoder answers, and 21 before that where the row is shorter or its form is none
 unfoldable pub encodedFrom : List ℕ → List ℕ → ℕ → Encoded
 encodedFrom vs l start = cond (isRecord vs) (encodeAnswer (recordOf vs) l (words start)) (encoded.Refused EncodeRecord)
 
@@ -266,3 +270,15 @@ encodedNumber vs l start = verdictNumber (encodedVerdict (encodedFrom vs l start
 -- the words afterwards: a refusal changes none, here or in `encodeWords`
 unfoldable pub encodedWords : List ℕ → List ℕ → ℕ → List ℕ
 encodedWords vs l start = cond (isRecord vs) (encodeWords (recordOf vs) l (words start)) l
+
+-- ---- the round trips
+
+-- the row encodes at the start to 0 and to the words as they are, all of them
+pub record WordsAgain (vs l : List ℕ) (start : ℕ) : Type 0 where
+  pub number : encodedNumber vs l start ≡ 0
+  pub same : encodedWords vs l start ≡ l
+
+-- what stands at the start decodes into the row to 0 and to the row as it is, all of it
+pub record RowAgain (stream : ℕ) (l : List ℕ) (start : ℕ) (vs : List ℕ) : Type 0 where
+  pub number : decodedNumber stream l start vs ≡ 0
+  pub same : decodedValues stream l start vs ≡ vs

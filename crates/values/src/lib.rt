@@ -5,19 +5,24 @@ mod rows;
 
 use checks::Rule;
 use microcode::Decoded;
+use microcode::Encoded;
 use microcode::Instruction;
 use microcode::Stream;
 use units::Words;
 ghost use mathlib.Core.Path.{_≡_};
-ghost use Prim.Native.Nat.{_≤_};
+ghost use Prim.Native.Nat.{ℕ, _≤_};
 ghost use lib.ListN.{length};
 ghost use Rattle.checks.specs.Verdict.{numberOf, verdictNumber};
 ghost use Rattle.microcode.specs.declared.Decoded.the-variants as decoded;
+ghost use Rattle.microcode.specs.Pair.{streamOf};
 ghost use Rattle.microcode.specs.Codec.{decodedVerdict};
-ghost use Rattle.values.specs.Values.{streamNumbered, lent, after, decodedNumber, decodedValues, written, valuesOf, encodedNumber, encodedWords};
+ghost use Rattle.values.specs.Values.{rowLength, streamNumbered, lent, after, decodedNumber, decodedValues, written, valuesOf, recordOf, encodedNumber, encodedWords, WordsAgain, RowAgain};
+
+// A row has as many elements or more, whatever its form.
+const ROW: usize = 32;
 
 // The pair at word `start`, control flow where `stream` is 0 and ALU otherwise, as values. 2, 4 and 11 are the decoder's; 20 where `values`
-// has fewer than 24 elements.
+// has fewer than 32 elements. After a 0 the row encodes to the same words again.
 #[no_mangle]
 pub extern "C" fn zlatomruk_decode(
     words: &[u32],
@@ -27,6 +32,7 @@ pub extern "C" fn zlatomruk_decode(
 ) -> u32
     ensures { λ r. ⌜ r ≡ decodedNumber stream (now (words .entry)) start (now (values .entry)) ⌝ }
     ensures { λ r. ⌜ now (values .exit) ≡ decodedValues stream (now (words .entry)) start (now (values .entry)) ⌝ }
+    ensures { λ r. ⌜ (r ≡ 0 → WordsAgain (now (values .exit)) (now (words .entry)) start) ⌝ }
 {
     let s = stream_numbered(stream);
     let d = microcode::decode(words, Words(start), s);
@@ -36,14 +42,15 @@ pub extern "C" fn zlatomruk_decode(
     }
 }
 
-// The record that the values hold, as two words at word `start`. 21 where it can't be encoded, or 24 elements or the form are missing;
-// 20 where the words have no room.
+// The record that the values hold, as two words at word `start`. 21 where it can't be encoded, or 32 elements or the form are missing;
+// 20 where the words have no room. After a 0 the words decode, in the stream of the row's form, to the same row again.
 #[no_mangle]
 pub extern "C" fn zlatomruk_encode(values: &[u32], words: &mut [u32], start: usize) -> u32
     ensures { λ r. ⌜ r ≡ encodedNumber (now (values .entry)) (now (words .entry)) start ⌝ }
     ensures { λ r. ⌜ now (words .exit) ≡ encodedWords (now (values .entry)) (now (words .entry)) start ⌝ }
+    ensures { λ r. ⌜ (r ≡ 0 → (stream : ℕ) → streamNumbered stream ≡ streamOf (recordOf (now (values .entry))) → RowAgain stream (now (words .exit)) start (now (values .entry))) ⌝ }
 {
-    if values.len() < 24 {
+    if values.len() < ROW {
         return number(Rule::EncodeRecord);
     }
     if 4 < values[0] {
@@ -51,8 +58,10 @@ pub extern "C" fn zlatomruk_encode(values: &[u32], words: &mut [u32], start: usi
     }
     let i = records::record_of(values);
     let e = microcode::encode(i, words, Words(start));
-    let v = microcode::encoded_verdict(e);
-    checks::verdict_number(v) as u32
+    match e {
+        Encoded::Refused(rule) => number(rule),
+        Encoded::Done => 0,
+    }
 }
 
 fn stream_numbered(n: u32) -> Stream
@@ -76,7 +85,7 @@ fn write(i: Instruction, values: &mut [u32]) -> u32
     ensures { λ r. ⌜ now (values .exit) ≡ after (lent (decoded.Taken i) (now (values .entry))) (now (values .entry)) ⌝ }
 {
     let room = values.len();
-    if room < 24 {
+    if room < ROW {
         return number(Rule::EncodeRoom);
     }
     fill(i, values);
@@ -84,7 +93,7 @@ fn write(i: Instruction, values: &mut [u32]) -> u32
 }
 
 fn fill(i: Instruction, values: &mut [u32])
-    requires { ⌜ 24 ≤ length (now values) ⌝ }
+    requires { ⌜ rowLength ≤ length (now values) ⌝ }
     ensures { λ r. ⌜ now (values .exit) ≡ written (valuesOf i) (now (values .entry)) ⌝ }
 {
     match i {

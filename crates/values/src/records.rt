@@ -14,11 +14,11 @@ use units::Slots;
 ghost use mathlib.Core.Path.{_≡_};
 ghost use Prim.Native.Nat.{_≤_};
 ghost use lib.ListN.{length};
-ghost use Rattle.values.specs.Values.{recordOf, cfAluWord0At, cfAluWord1At, cfWord0At, cfWord1At, exportWord0At, exportWord1At, aluWord0At, op2At, op3At};
+ghost use Rattle.values.specs.Values.{rowLength, recordOf, cfAluWord0At, cfAluWord1At, cfWord0At, cfWord1At, exportWord0At, exportWord1At, aluWord0At, op2At, op3At};
 
 // By the form in element 0; OP3 for any that the others are not.
 pub(crate) fn record_of(values: &[u32]) -> Instruction
-    requires { ⌜ 24 ≤ length (now values) ⌝ }
+    requires { ⌜ rowLength ≤ length (now values) ⌝ }
     ensures { λ r. ⌜ r ≡ recordOf (now (values .entry)) ⌝ }
 {
     let form = values[0];
@@ -38,7 +38,7 @@ pub(crate) fn record_of(values: &[u32]) -> Instruction
 }
 
 fn cf_alu_word0(values: &[u32]) -> CfAluWord0
-    requires { ⌜ 24 ≤ length (now values) ⌝ }
+    requires { ⌜ rowLength ≤ length (now values) ⌝ }
     ensures { λ r. ⌜ r ≡ cfAluWord0At (now (values .entry)) ⌝ }
 {
     let addr = values[1] as usize;
@@ -51,7 +51,7 @@ fn cf_alu_word0(values: &[u32]) -> CfAluWord0
 }
 
 fn cf_alu_word1(values: &[u32]) -> CfAluWord1
-    requires { ⌜ 24 ≤ length (now values) ⌝ }
+    requires { ⌜ rowLength ≤ length (now values) ⌝ }
     ensures { λ r. ⌜ r ≡ cfAluWord1At (now (values .entry)) ⌝ }
 {
     let count = values[8] as usize;
@@ -68,7 +68,7 @@ fn cf_alu_word1(values: &[u32]) -> CfAluWord1
 }
 
 fn cf_word0(values: &[u32]) -> CfWord0
-    requires { ⌜ 24 ≤ length (now values) ⌝ }
+    requires { ⌜ rowLength ≤ length (now values) ⌝ }
     ensures { λ r. ⌜ r ≡ cfWord0At (now (values .entry)) ⌝ }
 {
     let addr = values[1] as usize;
@@ -78,7 +78,7 @@ fn cf_word0(values: &[u32]) -> CfWord0
 }
 
 fn cf_word1(values: &[u32]) -> CfWord1
-    requires { ⌜ 24 ≤ length (now values) ⌝ }
+    requires { ⌜ rowLength ≤ length (now values) ⌝ }
     ensures { λ r. ⌜ r ≡ cfWord1At (now (values .entry)) ⌝ }
 {
     let count = values[5] as usize;
@@ -98,7 +98,7 @@ fn cf_word1(values: &[u32]) -> CfWord1
 }
 
 fn export_word0(values: &[u32]) -> CfAllocExportWord0
-    requires { ⌜ 24 ≤ length (now values) ⌝ }
+    requires { ⌜ rowLength ≤ length (now values) ⌝ }
     ensures { λ r. ⌜ r ≡ exportWord0At (now (values .entry)) ⌝ }
 {
     CfAllocExportWord0 {
@@ -112,7 +112,7 @@ fn export_word0(values: &[u32]) -> CfAllocExportWord0
 }
 
 fn export_word1(values: &[u32]) -> CfAllocExportWord1Swiz
-    requires { ⌜ 24 ≤ length (now values) ⌝ }
+    requires { ⌜ rowLength ≤ length (now values) ⌝ }
     ensures { λ r. ⌜ r ≡ exportWord1At (now (values .entry)) ⌝ }
 {
     CfAllocExportWord1Swiz {
@@ -131,7 +131,7 @@ fn export_word1(values: &[u32]) -> CfAllocExportWord1Swiz
 }
 
 fn alu_word0(values: &[u32]) -> AluWord0
-    requires { ⌜ 24 ≤ length (now values) ⌝ }
+    requires { ⌜ rowLength ≤ length (now values) ⌝ }
     ensures { λ r. ⌜ r ≡ aluWord0At (now (values .entry)) ⌝ }
 {
     AluWord0 {
@@ -150,7 +150,7 @@ fn alu_word0(values: &[u32]) -> AluWord0
 }
 
 fn alu_op2(values: &[u32]) -> AluWord1Op2
-    requires { ⌜ 24 ≤ length (now values) ⌝ }
+    requires { ⌜ rowLength ≤ length (now values) ⌝ }
     ensures { λ r. ⌜ r ≡ op2At (now (values .entry)) ⌝ }
 {
     AluWord1Op2 {
@@ -170,7 +170,7 @@ fn alu_op2(values: &[u32]) -> AluWord1Op2
 }
 
 fn alu_op3(values: &[u32]) -> AluWord1Op3
-    requires { ⌜ 24 ≤ length (now values) ⌝ }
+    requires { ⌜ rowLength ≤ length (now values) ⌝ }
     ensures { λ r. ⌜ r ≡ op3At (now (values .entry)) ⌝ }
 {
     AluWord1Op3 {

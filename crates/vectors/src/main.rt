@@ -21,8 +21,8 @@ fn input_room() -> [u8; 65610]
 }
 
 // Writes the report on an input.
-fn answer(input: &[u8], words: &mut [u32], report: &mut [u8]) {
-    let written = pack::report_input(input, words, report);
+fn answer(input: &[u8], report: &mut [u8]) {
+    let written = pack::report_input(input, report);
     match written {
         Written::Length(n) => {
             io::write_all(STDOUT_FILENO, &report[..n]);
@@ -48,13 +48,13 @@ fn length_in(header: &[u8]) -> usize {
 }
 
 // Reads so many bytes as `input` has room for, and judges them.
-fn judge_next(input: &mut [u8], words: &mut [u32], report: &mut [u8]) {
+fn judge_next(input: &mut [u8], report: &mut [u8]) {
     let n = io::read_full(STDIN_FILENO, input);
-    answer(&input[..n], words, report);
+    answer(&input[..n], report);
 }
 
 // Judges the case that comes next, and answers whether there was one.
-fn next_case(bytes: &mut [u8], words: &mut [u32], report: &mut [u8]) -> bool {
+fn next_case(bytes: &mut [u8], report: &mut [u8]) -> bool {
     let mut header = [0u8; HEADER];
     if io::read_full(STDIN_FILENO, &mut header) < HEADER {
         return false;
@@ -64,14 +64,14 @@ fn next_case(bytes: &mut [u8], words: &mut [u32], report: &mut [u8]) -> bool {
         return false;
     }
     io::write_all(STDOUT_FILENO, &header[LABEL..]);
-    judge_next(&mut bytes[..n], words, report);
+    judge_next(&mut bytes[..n], report);
     true
 }
 
-fn run(bytes: &mut [u8], words: &mut [u32], report: &mut [u8]) {
+fn run(bytes: &mut [u8], report: &mut [u8]) {
     let mut left: u32 = 10000;
     while left > 0 {
-        if !next_case(bytes, words, report) {
+        if !next_case(bytes, report) {
             return;
         }
         left -= 1;
@@ -80,7 +80,6 @@ fn run(bytes: &mut [u8], words: &mut [u32], report: &mut [u8]) {
 
 fn main() {
     let mut bytes = input_room();
-    let mut words = [0u32; 16384];
     let mut report = [0u8; 111];
-    run(&mut bytes, &mut words, &mut report);
+    run(&mut bytes, &mut report);
 }

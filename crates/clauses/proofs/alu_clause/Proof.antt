@@ -1,21 +1,26 @@
 -- `clauses::alu_clause` meets its contract. The loop's invariant: the groups passed break nothing, and the verdict is that of the groups
 -- left. Assumes nothing.
 use borrow.Author.Needs.{needs}
-use mathlib.Core.Path.{refl, sym, _∙_}
+use mathlib.Core.Path.{sym, ap, _∙_}
 use Prim.Native.Nat.{_-_}
 use native.Mathlib.Omega.{arith}
 use denote.Ref.{now}
-use borrow.Author.Tests.{not-true, not-false}
-use Rattle.clauses.proofs.OfClause.{frame, Along, along-none, clause-refused, clause-done, outside}
+use borrow.Author.Tests.{ltb-false, not-true, not-false}
+use Rattle.units.specs.declared.Slots.{Slots}
+use Rattle.checks.specs.declared.Place.the-variants.{Quadword}
+use Rattle.checks.specs.declared.Verdict.the-variants.{Refused}
+use Rattle.clauses.specs.Read.{stepOf}
+use Rattle.clauses.proofs.OfClause.{below-end, at-there, readable, behind-there, Along, along-none, clause-refused, clause-done, outside}
 use Rattle.clauses.proofs.OfStep.{passed-few, broken-few, along-broken, along-passed}
 use Rattle.clauses.proofs.alu_clause.Statement.{statement}
 use Rattle.clauses.proofs.alu_clause.Tie as tie
 
 abbrev Inv-loop : tie.InvT-loop
-Inv-loop words place push-before limits n first pixel starts widths setters₀ g₀ setters g = Along pixel limits words place first n setters g
+Inv-loop words place start slots push-before limits pixel starts widths setters₀ g₀ setters g =
+    Along pixel limits words place start slots setters g
 
 abbrev μ-loop : tie.MeasureT-loop
-μ-loop words place push-before limits n first pixel starts widths setters₀ g₀ setters g = n - g
+μ-loop words place start slots push-before limits pixel starts widths setters₀ g₀ setters g = slots .0 - g .0
 
 returns : tie.Need-returns Inv-loop μ-loop
 returns c =
@@ -24,85 +29,75 @@ returns c =
     (sym (c .before .is-inside .ensures) ∙ not-true _ (c .if1 .taken))
 
 loop-holds : tie.Need-loop-holds Inv-loop μ-loop
-loop-holds c = let a = c .before .before .before .before .before .before .before .args in along-none _ (a .limits) (now (a .words)) (a .place) _ _
-
-mul-next-group : tie.Need-mul-next-group Inv-loop μ-loop
-mul-next-group c =
-    let low = c .before .before .before .before .before in
-    let tested = c .before .before .before .before .before .before .before in
-    let a = c .before .before .before .before .before .before .before .before .before .args in
-    let f = frame (now (a .words)) (a .start) (a .slots) _ _ (search needs) (tested .is-inside .ensures) (low .before .if1 .left) (low .low-word .ensures) in
-    omega (arith, f .0, f .1)
-
-add-next-group : tie.Need-add-next-group Inv-loop μ-loop
-add-next-group c =
-    let low = c .before .before .before .before .before in
-    let tested = c .before .before .before .before .before .before .before in
-    let a = c .before .before .before .before .before .before .before .before .before .args in
-    let f = frame (now (a .words)) (a .start) (a .slots) _ _ (search needs) (tested .is-inside .ensures) (low .before .if1 .left) (low .low-word .ensures) in
-    omega (arith, f .0, f .1)
-
-sub-next-group : tie.Need-sub-next-group Inv-loop μ-loop
-sub-next-group c = search needs
+loop-holds c =
+    let a = c .before .before .before .before .before .before .args in along-none _ (a .limits) (now (a .words)) (a .place) (a .start) (a .slots)
 
 next-group-requires : tie.Need-next-group-requires Inv-loop μ-loop
 next-group-requires c κs =
-    let low = c .before .before .before .before .before .before .before in
-    let tested = c .before .before .before .before .before .before .before .before .before in
-    let a = c .before .before .before .before .before .before .before .before .before .before .before .args in
-    let f = frame (now (a .words)) (a .start) (a .slots) _ _ (search needs) (tested .is-inside .ensures) (low .before .if1 .left) (low .low-word .ensures) in
-    (record { some = omega (arith, c .before .before .loop-test .taken); inside = omega (arith, f .0, f .1, c .before .before .loop-test .taken) }, (c .before .before .before .before .before .gap-starts .ensures, c .before .before .before .before .gap-widths .ensures))
-
-add-refused : tie.Need-add-refused Inv-loop μ-loop
-add-refused c =
-    let low = c .before .before .before .before .before .before .before .before .before .before .before in
-    let tested = c .before .before .before .before .before .before .before .before .before .before .before .before .before in
-    let a = c .before .before .before .before .before .before .before .before .before .before .before .before .before .before .before .args in
-    let f = frame (now (a .words)) (a .start) (a .slots) _ _ (search needs) (tested .is-inside .ensures) (low .before .if1 .left) (low .low-word .ensures) in
-    let b = broken-few (a .limits) _ (now (a .words)) _ _ (c .before .before .before .next-group .ensures) (c .before .step .given .1) in
-    omega (arith, f .0, f .1, b, c .before .before .before .before .before .before .loop-test .taken)
+    let test = c .before .before .before .before .before in
+    let inside = test .before .before .before .before .before .before in
+    let a = inside .before .before .args in
+    let g = test .before .loop .g in
+    let placed = c .before .before in
+    (readable (now (a .words)) (search needs) (a .start) (a .slots) g (inside .is-inside .ensures) (c .before .before .before .before .before .before .before .before .before .before .if1 .left) (test .is-slot-below .ensures) (c .before .before .before .before .if2 .taken) (placed .before .slot-quadword .ensures) (placed .slots-left .ensures), (c .before .before .before .before .before .before .before .before .gap-starts .ensures, c .before .before .before .before .before .before .before .gap-widths .ensures))
 
 returns-2 : tie.Need-returns-2 Inv-loop μ-loop
 returns-2 c =
-    let low = c .before .before .before .before .before .before .before .before .before .before .before .before in
-    let tested = c .before .before .before .before .before .before .before .before .before .before .before .before .before .before in
-    let a = c .before .before .before .before .before .before .before .before .before .before .before .before .before .before .before .before .args in
-    let f = frame (now (a .words)) (a .start) (a .slots) _ _ (search needs) (tested .is-inside .ensures) (low .before .if1 .left) (low .low-word .ensures) in
-    clause-refused _ (a .limits) (now (a .words)) (a .place) _ _ (a .kind) (a .push-before) (a .start) (a .slots)
-    (sym (tested .is-inside .ensures) ∙ not-false _ (low .before .if1 .left)) (c .before .before .before .before .before .before .before .before .before .before .before .is-pixel .ensures) (f .0) refl
-    (along-broken _ (a .limits) (now (a .words)) (a .place) _ _ (c .before .before .before .before .before .before .before .before .loop .inv) (c .before .before .before .before .before .before .before .loop-test .taken) (c .before .before .before .before .next-group .ensures) (c .before .before .step .given .1))
-    (c .refused .ensures)
-
-add-g : tie.Need-add-g Inv-loop μ-loop
-add-g c =
-    let low = c .before .before .before .before .before .before .before .before .before .before .before .before in
-    let tested = c .before .before .before .before .before .before .before .before .before .before .before .before .before .before in
-    let a = c .before .before .before .before .before .before .before .before .before .before .before .before .before .before .before .before .args in
-    let f = frame (now (a .words)) (a .start) (a .slots) _ _ (search needs) (tested .is-inside .ensures) (low .before .if1 .left) (low .low-word .ensures) in
-    let b = passed-few (a .limits) _ (now (a .words)) _ _ (c .before .before .before .before .next-group .ensures) (c .before .before .step2 .given .1) in
-    omega (arith, f .0, f .1, b .1, c .before .before .before .before .before .before .before .loop-test .taken)
+    let test = c .before .before .before .before .before .before .before .before .before .before .before in
+    let inside = test .before .before .before .before .before .before in
+    let a = inside .before .before .args in
+    let g = test .before .loop .g in
+    let placed = c .before .before .before .before .before .before .before .before in
+    let at = at-there (now (a .words)) (search needs) (a .start) (a .slots) g (inside .is-inside .ensures) (c .before .before .before .before .before .before .before .before .before .before .before .before .before .before .before .before .if1 .left) (test .is-slot-below .ensures) (c .before .before .before .before .before .before .before .before .before .before .if2 .taken) (placed .before .slot-quadword .ensures) in
+    let pixel = c .before .before .before .before .before .before .before .before .before .before .before .before .before .before .before .is-pixel .result in
+    let step = c .before .before .before .before .before .next-group .ensures ∙ (λ i. stepOf (a .limits) pixel (now (a .words)) (at i) (placed .slots-left .ensures i)) in
+    let told = c .before .before .before .step .given .1 in
+    let few = broken-few (a .limits) pixel (now (a .words)) _ _ step told in
+    clause-refused pixel (a .limits) (now (a .words)) (a .place) (a .start) (a .slots) (a .kind) (a .push-before)
+    (sym (inside .is-inside .ensures) ∙ not-false _ (c .before .before .before .before .before .before .before .before .before .before .before .before .before .before .before .before .if1 .left)) (c .before .before .before .before .before .before .before .before .before .before .before .before .before .before .before .is-pixel .ensures)
+    (along-broken pixel (a .limits) (now (a .words)) (a .place) (a .start) (a .slots) (test .before .loop .inv) (below-end (now (a .words)) (search needs) (a .start) (a .slots) g (inside .is-inside .ensures) (c .before .before .before .before .before .before .before .before .before .before .before .before .before .before .before .before .if1 .left) (test .is-slot-below .ensures) (c .before .before .before .before .before .before .before .before .before .before .if2 .taken)) step told)
+    (c .refused .ensures
+    ∙ ap (Refused (c .before .before .before .step .given .0 .0) (Quadword (a .place))) (behind-there (now (a .words)) (search needs) (a .start) (a .slots) g (inside .is-inside .ensures) (c .before .before .before .before .before .before .before .before .before .before .before .before .before .before .before .before .if1 .left) (test .is-slot-below .ensures) (c .before .before .before .before .before .before .before .before .before .before .if2 .taken) (c .before .slot-behind .ensures) few))
 
 loop-less : tie.Need-loop-less Inv-loop μ-loop
 loop-less c =
-    let a = c .before .before .before .before .before .before .before .before .before .before .before .before .before .before .before .before .args in
-    let b = passed-few (a .limits) _ (now (a .words)) _ _ (c .before .before .before .before .next-group .ensures) (c .before .before .step2 .given .1) in
-    omega (arith, b .0, b .1, c .before .before .before .before .before .before .before .loop-test .taken)
+    let test = c .before .before .before .before .before .before .before .before .before .before .before in
+    let inside = test .before .before .before .before .before .before in
+    let a = inside .before .before .args in
+    let g = test .before .loop .g in
+    let placed = c .before .before .before .before .before .before .before .before in
+    let at = at-there (now (a .words)) (search needs) (a .start) (a .slots) g (inside .is-inside .ensures) (c .before .before .before .before .before .before .before .before .before .before .before .before .before .before .before .before .if1 .left) (test .is-slot-below .ensures) (c .before .before .before .before .before .before .before .before .before .before .if2 .taken) (placed .before .slot-quadword .ensures) in
+    let pixel = c .before .before .before .before .before .before .before .before .before .before .before .before .before .before .before .is-pixel .result in
+    let step = c .before .before .before .before .before .next-group .ensures ∙ (λ i. stepOf (a .limits) pixel (now (a .words)) (at i) (placed .slots-left .ensures i)) in
+    let few = passed-few (a .limits) pixel (now (a .words)) _ _ step (c .before .before .before .step2 .given .1) in
+    let next = ap (λ (x : Slots). x .0) (behind-there (now (a .words)) (search needs) (a .start) (a .slots) g (inside .is-inside .ensures) (c .before .before .before .before .before .before .before .before .before .before .before .before .before .before .before .before .if1 .left) (test .is-slot-below .ensures) (c .before .before .before .before .before .before .before .before .before .before .if2 .taken) (c .slot-behind2 .ensures) (few .1)) in
+    let here = below-end (now (a .words)) (search needs) (a .start) (a .slots) g (inside .is-inside .ensures) (c .before .before .before .before .before .before .before .before .before .before .before .before .before .before .before .before .if1 .left) (test .is-slot-below .ensures) (c .before .before .before .before .before .before .before .before .before .before .if2 .taken) in
+    omega (arith, few .0, next, here)
 
 loop-again : tie.Need-loop-again Inv-loop μ-loop
 loop-again c =
-    let a = c .before .before .before .before .before .before .before .before .before .before .before .before .before .before .before .before .args in
-    along-passed _ (a .limits) (now (a .words)) (a .place) _ _ (c .before .before .before .before .before .before .before .before .loop .inv) (c .before .before .before .before .before .before .before .loop-test .taken) (c .before .before .before .before .next-group .ensures)
-    (c .before .before .step2 .given .1) (c .together .ensures)
+    let test = c .before .before .before .before .before .before .before .before .before .before .before in
+    let inside = test .before .before .before .before .before .before in
+    let a = inside .before .before .args in
+    let g = test .before .loop .g in
+    let placed = c .before .before .before .before .before .before .before .before in
+    let at = at-there (now (a .words)) (search needs) (a .start) (a .slots) g (inside .is-inside .ensures) (c .before .before .before .before .before .before .before .before .before .before .before .before .before .before .before .before .if1 .left) (test .is-slot-below .ensures) (c .before .before .before .before .before .before .before .before .before .before .if2 .taken) (placed .before .slot-quadword .ensures) in
+    let pixel = c .before .before .before .before .before .before .before .before .before .before .before .before .before .before .before .is-pixel .result in
+    let step = c .before .before .before .before .before .next-group .ensures ∙ (λ i. stepOf (a .limits) pixel (now (a .words)) (at i) (placed .slots-left .ensures i)) in
+    let told = c .before .before .before .step2 .given .1 in
+    let few = passed-few (a .limits) pixel (now (a .words)) _ _ step told in
+    along-passed pixel (a .limits) (now (a .words)) (a .place) (a .start) (a .slots) (test .before .loop .inv) (below-end (now (a .words)) (search needs) (a .start) (a .slots) g (inside .is-inside .ensures) (c .before .before .before .before .before .before .before .before .before .before .before .before .before .before .before .before .if1 .left) (test .is-slot-below .ensures) (c .before .before .before .before .before .before .before .before .before .before .if2 .taken)) step told
+    (c .before .together .ensures) (behind-there (now (a .words)) (search needs) (a .start) (a .slots) g (inside .is-inside .ensures) (c .before .before .before .before .before .before .before .before .before .before .before .before .before .before .before .before .if1 .left) (test .is-slot-below .ensures) (c .before .before .before .before .before .before .before .before .before .before .if2 .taken) (c .slot-behind2 .ensures) (few .1))
 
 returns-3 : tie.Need-returns-3 Inv-loop μ-loop
 returns-3 c =
-    let low = c .before .before .before .before .before .before in
-    let tested = c .before .before .before .before .before .before .before .before in
-    let a = c .before .before .before .before .before .before .before .before .before .before .args in
-    let f = frame (now (a .words)) (a .start) (a .slots) _ _ (search needs) (tested .is-inside .ensures) (low .before .if1 .left) (low .low-word .ensures) in
-    clause-done _ (a .limits) (now (a .words)) (a .place) _ _ (a .kind) (a .push-before) (a .start) (a .slots)
-    (sym (tested .is-inside .ensures) ∙ not-false _ (low .before .if1 .left)) (c .before .before .before .before .before .is-pixel .ensures) (f .0) refl
-    (c .before .before .loop .inv) (c .before .loop-test .left) (c .push-verdict .ensures)
+    let test = c .before .before in
+    let inside = test .before .before .before .before .before .before in
+    let a = inside .before .before .args in
+    let g = test .before .loop .g in
+    clause-done _ (a .limits) (now (a .words)) (a .place) (a .start) (a .slots) (a .kind) (a .push-before)
+    (sym (inside .is-inside .ensures) ∙ not-false _ (c .before .before .before .before .before .before .before .if1 .left)) (c .before .before .before .before .before .before .is-pixel .ensures)
+    (test .before .loop .inv) (ltb-false (g .0) (a .slots .0) (sym (test .is-slot-below .ensures) ∙ c .before .if2 .left)) (c .push-verdict .ensures)
 
 pub alu-clause-spec : {M : Type 1} → statement M
 alu-clause-spec =
@@ -115,19 +110,18 @@ alu-clause-spec =
     (λ c κs. tt)
     (λ c κs. tt)
     (λ c κs. tt)
-    (λ c κs. tt)
     loop-holds
-    mul-next-group
-    add-next-group
-    sub-next-group
+    (λ c κs. tt)
+    (λ c κs. tt)
+    (λ c κs. tt)
     next-group-requires
     (λ c. search needs)
-    add-refused
+    (λ c κs. tt)
     (λ c κs. tt)
     returns-2
     (λ c. search needs)
     (λ c κs. tt)
-    add-g
+    (λ c κs. tt)
     loop-less
     loop-again
     (λ c κs. tt)

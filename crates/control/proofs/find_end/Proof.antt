@@ -1,18 +1,19 @@
 -- `control::find_end` meets its contract. The loop's invariant: the end is the first one from here on. Assumes nothing.
-use mathlib.Core.Path.{_≡_}
+use mathlib.Core.Path.{_≡_, sym, _∙_}
 use Prim.Native.Nat.{_-_, _≤_}
 use native.Mathlib.Omega.{arith}
+use borrow.Author.Tests.{ltb-false}
 use denote.Ref.{now}
 use Rattle.control.specs.Control.{endFrom, endOf}
-use Rattle.control.proofs.OfEnd.{high-word-of, end-first, end-found, end-next, end-none}
+use Rattle.control.proofs.OfEnd.{is-searched, high-word-of, next-pair, end-first, end-found, end-next, end-none}
 use Rattle.control.proofs.find_end.Statement.{statement}
 use Rattle.control.proofs.find_end.Tie as tie
 
 abbrev Inv-loop : tie.InvT-loop
-Inv-loop words pairs p₀ p = (p ≤ pairs) × (endFrom words p (pairs - p) ≡ endOf words)
+Inv-loop words pairs p₀ p = (p .0 ≤ pairs .0) × (endFrom words (p .0) (pairs .0 - p .0) ≡ endOf words)
 
 abbrev μ-loop : tie.MeasureT-loop
-μ-loop words pairs p₀ p = pairs - p
+μ-loop words pairs p₀ p = pairs .0 - p .0
 
 loop-holds : tie.Need-loop-holds Inv-loop μ-loop
 loop-holds c = (omega arith, end-first (now (c .before .before .args .words)) _ (c .searched-pairs .ensures))
@@ -20,53 +21,68 @@ loop-holds c = (omega arith, end-first (now (c .before .before .args .words)) _ 
 mul-is-end : tie.Need-mul-is-end Inv-loop μ-loop
 mul-is-end c =
     let high = c in
-    let found = high .before .before .before in
-    let at =
-    high-word-of (now (found .before .before .args .words)) _ (high .before .before .loop .p) _
-    (found .searched-pairs .ensures) (high .before .loop-test .taken) (high .high-word .ensures) in
-    omega (arith, at .2)
+    let found = high .before .before .before .before in
+    let w = now (found .before .before .args .words) in
+    let here =
+    is-searched w _ (high .before .before .before .loop .p) _ (found .searched-pairs .ensures) (high .before .before .is-below .ensures)
+    (high .before .if1 .taken) in
+    let at = high-word-of w _ _ here _ (high .high-word .ensures) in
+    omega (arith, at, here .below, here .most)
 
 shared-slice-read-is-end : tie.Need-shared-slice-read-is-end Inv-loop μ-loop
 shared-slice-read-is-end c =
     let high = c .before in
-    let found = high .before .before .before in
-    let at =
-    high-word-of (now (found .before .before .args .words)) _ (high .before .before .loop .p) _
-    (found .searched-pairs .ensures) (high .before .loop-test .taken) (high .high-word .ensures) in
-    at .1
+    let found = high .before .before .before .before in
+    let w = now (found .before .before .args .words) in
+    let here =
+    is-searched w _ (high .before .before .before .loop .p) _ (found .searched-pairs .ensures) (high .before .before .is-below .ensures)
+    (high .before .if1 .taken) in
+    let at = high-word-of w _ _ here _ (high .high-word .ensures) in
+    omega (arith, at, here .inside)
 
 returns : tie.Need-returns Inv-loop μ-loop
 returns c =
     let high = c .before .before .before in
-    let found = high .before .before .before in
-    let at =
-    high-word-of (now (found .before .before .args .words)) _ (high .before .before .loop .p) _
-    (found .searched-pairs .ensures) (high .before .loop-test .taken) (high .high-word .ensures) in
-    end-found (now (found .before .before .args .words)) _ _ (high .before .before .loop .inv .1) _ _
-    (high .before .loop-test .taken) (at .0) (c .before .is-end .ensures) (c .if1 .taken)
-
-add-p : tie.Need-add-p Inv-loop μ-loop
-add-p c = omega arith
+    let found = high .before .before .before .before in
+    let w = now (found .before .before .args .words) in
+    let here =
+    is-searched w _ (high .before .before .before .loop .p) _ (found .searched-pairs .ensures) (high .before .before .is-below .ensures)
+    (high .before .if1 .taken) in
+    let at = high-word-of w _ _ here _ (high .high-word .ensures) in
+    end-found w _ _ (high .before .before .before .loop .inv .1) _ _ (here .below) at (c .before .is-end .ensures) (c .if2 .taken)
 
 loop-less : tie.Need-loop-less Inv-loop μ-loop
-loop-less c = omega arith
+loop-less c =
+    let high = c .before .before .before .before in
+    let found = high .before .before .before .before in
+    let w = now (found .before .before .args .words) in
+    let here =
+    is-searched w _ (high .before .before .before .loop .p) _ (found .searched-pairs .ensures) (high .before .before .is-below .ensures)
+    (high .before .if1 .taken) in
+    let at = high-word-of w _ _ here _ (high .high-word .ensures) in
+    let next = next-pair w _ _ here _ (c .quadword-behind .ensures) in
+    omega (arith, here .below, next)
 
 loop-again : tie.Need-loop-again Inv-loop μ-loop
 loop-again c =
-    let high = c .before .before .before in
-    let found = high .before .before .before in
-    let at =
-    high-word-of (now (found .before .before .args .words)) _ (high .before .before .loop .p) _
-    (found .searched-pairs .ensures) (high .before .loop-test .taken) (high .high-word .ensures) in
-    let next =
-    end-next (now (found .before .before .args .words)) _ _ (high .before .before .loop .inv .1) _ _
-    (high .before .loop-test .taken) (at .0) (c .before .is-end .ensures) (c .if1 .left) in
-    (omega arith, next)
+    let high = c .before .before .before .before in
+    let found = high .before .before .before .before in
+    let w = now (found .before .before .args .words) in
+    let here =
+    is-searched w _ (high .before .before .before .loop .p) _ (found .searched-pairs .ensures) (high .before .before .is-below .ensures)
+    (high .before .if1 .taken) in
+    let at = high-word-of w _ _ here _ (high .high-word .ensures) in
+    let next = next-pair w _ _ here _ (c .quadword-behind .ensures) in (
+      omega (arith, here .below, next),
+      end-next w _ _ (high .before .before .before .loop .inv .1) _ _ (here .below) at (c .before .before .is-end .ensures) _ next
+          (c .before .if2 .left),
+    )
 
 returns-2 : tie.Need-returns-2 Inv-loop μ-loop
 returns-2 c =
-    end-none (now (c .before .before .before .before .args .words)) _ _ (c .before .loop .inv .1) (c .before .loop .inv .0)
-    (c .loop-test .left)
+    let loop = c .before .before .loop in
+    end-none (now (c .before .before .before .before .before .args .words)) _ _ (loop .inv .1) (loop .inv .0)
+    (ltb-false _ _ (sym (c .before .is-below .ensures) ∙ c .if1 .left))
 
 pub find-end-spec : {M : Type 1} → statement M
 find-end-spec =
@@ -77,11 +93,12 @@ find-end-spec =
     (λ c κs. tt)
     loop-holds
     (λ c κs. tt)
+    (λ c κs. tt)
     mul-is-end
     shared-slice-read-is-end
     (λ c κs. tt)
     returns
-    add-p
+    (λ c κs. tt)
     loop-less
     loop-again
     returns-2)

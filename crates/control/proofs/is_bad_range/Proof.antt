@@ -16,7 +16,7 @@ returns-2 c =
 returns-3 : tie.Need-returns-3
 returns-3 c =
     let a = c .before .before .before .before .before .args in
-    range-fetches (a .end) (a .quads) (a .clause) _ _ _ _ (c .is-outside2 .ensures)
+    range-fetches (a .end) (a .quads) (a .clause) _ _ _ _ (c .is-outside2 .ensures) (search needs)
     (c .before .before .before .clause2 .given .1) (c .before .fetches-length .ensures)
 
 pub is-bad-range-spec : {M : Type 1} → statement M

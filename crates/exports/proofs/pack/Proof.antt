@@ -1,6 +1,6 @@
--- `exports::pack` meets its contract, part by part. Assumes nothing.
+-- `exports::pack` meets its contract: the sum is the row of fields, and what eight bits hold is below 256. Assumes nothing.
 use borrow.Author.Needs.{needs}
-use Prim.Native.Nat.{_+_, _*_, _%_, _^_}
+use native.Mathlib.Omega.{arith}
 use Rattle.exports.specs.Packed.{packed}
 use Rattle.exports.proofs.pack.Statement.{statement}
 use Rattle.exports.proofs.pack.Tie as tie
@@ -8,9 +8,10 @@ use Rattle.exports.proofs.pack.Tie as tie
 returns : tie.Need-returns
 unfolding packed
 returns c =
-    λ i.
-    c .before .before .verdict-number .ensures i
-    + (c .before .verdict-place .ensures i % 2 ^ 24 * 256 + c .verdict-slot .ensures i % 2 ^ 32 * 2 ^ 32)
+    let number = c .before .before .verdict-number .ensures in
+    let place = c .before .verdict-place .ensures in
+    let slot = c .verdict-slot .ensures in
+    (omega arith, omega arith)
 
 pub pack-spec : {M : Type 1} → statement M
 pack-spec =

@@ -27,7 +27,7 @@ returns c =
     (c .before .before .before .before .or-here3 .ensures)
     (c .before .before .before .operands-granted .ensures)
     (c .before .before .or-here4 .ensures)
-    (c .before .take .ensures)
+    (c .before .occupy .ensures)
     (relative .has-relative .ensures)
     (c .next-issues .ensures)
 

@@ -1,79 +1,90 @@
 -- `judge::first_at` meets its contract, 4 to 15 and then 16 and 17. Assumes nothing.
 use borrow.Author.Needs.{needs}
-use mathlib.Core.Path.{refl}
 use native.Mathlib.Omega.{arith}
 use denote.Ref.{now}
-use Rattle.control.specs.Control.{lowAt, highAt}
-use Rattle.judge.proofs.OfPass.{flow-is, found-pair, found-stack}
+use Rattle.judge.proofs.OfPass.{stands, flow-is, found-pair, found-stack}
 use Rattle.judge.proofs.first_at.Statement.{statement}
 use Rattle.judge.proofs.first_at.Tie as tie
 
 mul-low : tie.Need-mul-low
-mul-low c = omega (arith, c .before .before .before .pre .0 .in-words .in-buffer, c .before .before .before .pre .0 .in-section)
-
-mul-low-2 : tie.Need-mul-low-2
-mul-low-2 c = omega (arith, c .before .before .before .pre .0 .in-words .in-buffer, c .before .before .before .pre .0 .in-section)
+mul-low c =
+    let low = c in
+    let z = low .before .before .before .before in
+    let a = z .args in
+    let here = stands (now (a .words)) (a .e .0) (a .p) (low .low-word .result) (low .low-word .ensures) (z .pre .0) in
+    omega (arith, here .few)
 
 shared-slice-read-low : tie.Need-shared-slice-read-low
 shared-slice-read-low c =
-    omega
-    (arith, c .before .before .before .before .pre .0 .in-words .in-buffer, c .before .before .before .before .pre .0 .in-section)
-
-mul-high : tie.Need-mul-high
-mul-high c =
-    omega
-    (arith, c .before .before .before .before .pre .0 .in-words .in-buffer, c .before .before .before .before .pre .0 .in-section)
+    let low = c .before in
+    let z = low .before .before .before .before in
+    let a = z .args in
+    let here = stands (now (a .words)) (a .e .0) (a .p) (low .low-word .result) (low .low-word .ensures) (z .pre .0) in
+    omega (arith, here .in-words)
 
 add-high : tie.Need-add-high
 add-high c =
-    omega
-    (arith, c .before .before .before .before .pre .0 .in-words .in-buffer, c .before .before .before .before .pre .0 .in-section)
+    let low = c .before in
+    let z = low .before .before .before .before in
+    let a = z .args in
+    let here = stands (now (a .words)) (a .e .0) (a .p) (low .low-word .result) (low .low-word .ensures) (z .pre .0) in
+    omega (arith, here .few)
 
-mul-high-2 : tie.Need-mul-high-2
-mul-high-2 c =
-    omega
-    (arith, c .before .before .before .before .pre .0 .in-words .in-buffer, c .before .before .before .before .pre .0 .in-section)
+mul-high : tie.Need-mul-high
+mul-high c =
+    let low = c .before in
+    let z = low .before .before .before .before in
+    let a = z .args in
+    let here = stands (now (a .words)) (a .e .0) (a .p) (low .low-word .result) (low .low-word .ensures) (z .pre .0) in
+    omega (arith, here .few)
 
 shared-slice-read-high : tie.Need-shared-slice-read-high
 shared-slice-read-high c =
-    omega
-    (arith, c .before .before .before .before .before .pre .0 .in-words .in-buffer, c .before .before .before .before .before .pre .0 .in-section)
+    let low = c .before .before in
+    let z = low .before .before .before .before in
+    let a = z .args in
+    let here = stands (now (a .words)) (a .e .0) (a .p) (low .low-word .result) (low .low-word .ensures) (z .pre .0) in
+    omega (arith, here .in-words)
 
 stack-at-requires : tie.Need-stack-at-requires
-unfolding lowAt highAt
 stack-at-requires c κs =
-    let z = c .before .before .before .before .before .before .before .before .before .before .before in
+    let told = c .before .before .before .before .before in
+    let low = told .before .before .before in
+    let z = low .before .before .before .before in
     let a = z .args in
-    (flow-is (now (a .words)) (a .p) refl refl (c .before .before .before .before .before .control-of .ensures) (c .before .flow-of .ensures), (z .pre .1, omega (arith, z .pre .0 .in-words .among-512, z .pre .0 .in-section)))
+    let here = stands (now (a .words)) (a .e .0) (a .p) (low .low-word .result) (low .low-word .ensures) (z .pre .0) in
+    (flow-is (now (a .words)) (a .p .0) (here .is-low) (here .is-high) (told .control-of .ensures) (c .before .flow-of .ensures), (z .pre .1, omega (arith, z .pre .0 .in-words .among-512, z .pre .0 .in-section)))
 
 returns : tie.Need-returns
-unfolding lowAt highAt
 returns c =
-    let z = c .before .before .before .before .before .before .before .before .before .before in
+    let verdict = c .before .before .before in
+    let low = verdict .before .before .before .before in
+    let z = low .before .before .before .before in
     let a = z .args in
-    found-pair (a .card) (now (a .words)) (a .e) (a .p) refl refl (c .before .before .before .before .control-of .ensures)
-    (c .before .before .before .pair-verdict .ensures) (c .before .verdict .given .1)
+    let here = stands (now (a .words)) (a .e .0) (a .p) (low .low-word .result) (low .low-word .ensures) (z .pre .0) in
+    found-pair (a .card) (now (a .words)) (a .e .0) (a .p .0) (here .is-low) (here .is-high)
+    (verdict .before .control-of .ensures) (verdict .pair-verdict .ensures) (c .before .verdict .given .1)
 
 returns-2 : tie.Need-returns-2
-unfolding lowAt highAt
 returns-2 c =
-    let z = c .before .before .before .before .before .before .before .before .before .before .before .before in
+    let verdict = c .before .before .before .before .before in
+    let low = verdict .before .before .before .before in
+    let z = low .before .before .before .before in
     let a = z .args in
-    found-stack (a .card) (now (a .words)) (a .e) (a .p) refl refl
-    (c .before .before .before .before .before .before .control-of .ensures)
-    (c .before .before .before .before .before .pair-verdict .ensures) (c .stack-at .result)
+    let here = stands (now (a .words)) (a .e .0) (a .p) (low .low-word .result) (low .low-word .ensures) (z .pre .0) in
+    found-stack (a .card) (now (a .words)) (a .e .0) (a .p .0) (here .is-low) (here .is-high)
+    (verdict .before .control-of .ensures) (verdict .pair-verdict .ensures) (c .stack-at .result)
     (c .before .before .before .enum-told .given .1) (c .stack-at .ensures)
 
 pub first-at-spec : {M : Type 1} → statement M
 first-at-spec =
     tie.close
     (tie.spec
+    (λ c κs. tt)
     mul-low
-    mul-low-2
     shared-slice-read-low
-    mul-high
     add-high
-    mul-high-2
+    mul-high
     shared-slice-read-high
     (λ c κs. tt)
     (λ c κs. tt)

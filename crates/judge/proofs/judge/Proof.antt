@@ -7,15 +7,16 @@ use Rattle.judge.proofs.judge.Tie as tie
 
 returns : tie.Need-returns
 returns c =
-    let a = c .before .before .before .before .before .args in
-    bad-card (a .card) (now (a .words)) (c .before .before .before .check-card .ensures) (c .before .test .given .1)
+    let a = c .before .before .before .before .before .before .args in
+    bad-card (a .card) (now (a .words)) (c .before .before .before .before .check-card .ensures) (c .before .before .test .given .1)
+    (c .refused .ensures)
 
 returns-2 : tie.Need-returns-2
 returns-2 c =
     let a = c .before .before .before .before .before .before .before .args in
     bad-length (a .card) (now (a .words)) (c .before .before .before .before .before .check-card .ensures)
     (c .before .before .before .enum-told .given .1) (c .before .before .is-bad-length .ensures) (c .before .if1 .taken)
-    (c .refused-whole .ensures)
+    (c .refused2 .ensures)
 
 returns-3 : tie.Need-returns-3
 returns-3 c =
@@ -27,7 +28,7 @@ returns-3 c =
     (c .before .before .before .before .before .if1 .left)
     (c .before .before .before .before .searched-pairs .ensures) (c .before .before .before .find-end .ensures)
     (c .before .before .is-at-most .ensures)
-    (c .before .if2 .taken) (c .refused-whole2 .ensures)
+    (c .before .if2 .taken) (c .refused3 .ensures)
 
 both-passes-requires : tie.Need-both-passes-requires
 both-passes-requires c κs =
@@ -56,6 +57,7 @@ judge-spec =
     (tie.spec
     (λ c κs. tt)
     (λ c. search needs)
+    (λ c κs. tt)
     returns
     (λ c. search needs)
     (λ c κs. tt)

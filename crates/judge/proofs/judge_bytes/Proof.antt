@@ -13,8 +13,9 @@ returns c =
 
 returns-2 : tie.Need-returns-2
 returns-2 c =
-    let a = c .before .before .before .before .before .before .args in
-    by-line (now (a .bytes)) (now (a .words)) (c .before .before .before .read-card .ensures) (c .before .read2 .given .1)
+    let a = c .before .before .before .before .before .before .before .args in
+    by-line (now (a .bytes)) (now (a .words)) (c .before .before .before .before .read-card .ensures)
+    (c .before .before .read2 .given .1) (c .refused .ensures)
 
 pub judge-bytes-spec : {M : Type 1} → statement M
 judge-bytes-spec =
@@ -24,5 +25,6 @@ judge-bytes-spec =
     (λ c. search needs)
     (λ c κs. tt)
     (λ c. search needs)
+    (λ c κs. tt)
     returns
     returns-2)

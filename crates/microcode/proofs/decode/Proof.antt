@@ -3,24 +3,37 @@ use borrow.Author.Needs.{needs}
 use native.Mathlib.Omega.{arith}
 use denote.Ref.{now}
 use Rattle.microcode.proofs.OfCodec.{decode-short, decode-pair}
+use Rattle.microcode.proofs.OfPromises.{decode-promises}
 use Rattle.microcode.proofs.decode.Statement.{statement}
 use Rattle.microcode.proofs.decode.Tie as tie
 
 returns : tie.Need-returns
-returns c = let a = c .before .before .args in decode-short (a .stream) (now (a .words)) (a .start) (omega arith)
+returns c =
+    let w = c .before in
+    let a = w .before .args in
+    decode-promises (a .stream) (now (a .words)) (a .start) _ (λ k. w .shared-slice-known .given k .fits)
+    (decode-short (a .stream) (now (a .words)) (a .start) (omega arith))
 
 returns-2 : tie.Need-returns-2
-returns-2 c = let a = c .before .before .before .args in decode-short (a .stream) (now (a .words)) (a .start) (omega arith)
+returns-2 c =
+    let w = c .before .before in
+    let a = w .before .args in
+    decode-promises (a .stream) (now (a .words)) (a .start) _ (λ k. w .shared-slice-known .given k .fits)
+    (decode-short (a .stream) (now (a .words)) (a .start) (omega arith))
 
 returns-3 : tie.Need-returns-3
 returns-3 c =
-    let a = c .before .before .before .before .before .before .before .before .args in
-    decode-pair (a .stream) _ (now (a .words)) (a .start) _ (omega arith) (c .before .before .before .enum-told .given .1) (c .cf-pair .ensures)
+    let w = c .before .before .before .before .before .before .before in
+    let a = w .before .args in
+    decode-promises (a .stream) (now (a .words)) (a .start) _ (λ k. w .shared-slice-known .given k .fits)
+    (decode-pair (a .stream) _ (now (a .words)) (a .start) _ (omega arith) (c .before .enum-told .given .1) (c .cf-pair .ensures))
 
 returns-4 : tie.Need-returns-4
 returns-4 c =
-    let a = c .before .before .before .before .before .before .before .before .args in
-    decode-pair (a .stream) _ (now (a .words)) (a .start) _ (omega arith) (c .before .before .before .enum-told2 .given .1) (c .alu-pair .ensures)
+    let w = c .before .before .before .before .before .before .before in
+    let a = w .before .args in
+    decode-promises (a .stream) (now (a .words)) (a .start) _ (λ k. w .shared-slice-known .given k .fits)
+    (decode-pair (a .stream) _ (now (a .words)) (a .start) _ (omega arith) (c .before .enum-told2 .given .1) (c .alu-pair .ensures))
 
 pub decode-spec : {M : Type 1} → statement M
 decode-spec =
@@ -36,11 +49,6 @@ decode-spec =
     (λ c. search needs)
     (λ c. search needs)
     (λ c κs. tt)
-    (λ c. search needs)
-    (λ c. search needs)
-    (λ c. search needs)
-    (λ c. search needs)
-    (λ c. search needs)
     (λ c. search needs)
     (λ c κs. tt)
     returns-3

@@ -2,24 +2,29 @@
 use borrow.Author.Needs.{needs}
 use denote.Ref.{now}
 use Rattle.values.proofs.OfCodec.{decode-refused, decode-taken}
+use Rattle.values.proofs.OfValues.{decode-promises}
 use Rattle.values.proofs.zlatomruk_decode.Statement.{statement}
 use Rattle.values.proofs.zlatomruk_decode.Tie as tie
 
 returns : tie.Need-returns
 returns c =
     let d = c .before .before .before .before in
-    let a = d .before .before .before .before .args in
-    decode-refused (a .stream) (now (a .words)) (a .start) (now (a .values)) _ _ (d .before .stream-numbered .ensures) (d .decode .ensures)
-    _ _ (c .before .before .d .given .1) (c .number .ensures)
+    let k = d .before .before .before in
+    let a = k .before .args in
+    decode-promises (a .stream) (now (a .words)) (a .start) (now (a .values)) _ _ (λ j. k .shared-slice-known .given j .fits)
+    (decode-refused (a .stream) (now (a .words)) (a .start) (now (a .values)) _ _ (d .before .stream-numbered .ensures) (d .decode .ensures .0)
+    _ _ (c .before .before .d .given .1) (c .number .ensures))
 
 returns-2 : tie.Need-returns-2
 returns-2 c =
     let w = c .before .before in
     let x = w .before .before .before in
     let d = x .before .before in
-    let a = d .before .before .before .before .args in
-    decode-taken (a .stream) (now (a .words)) (a .start) (now (a .values)) _ _ (d .before .stream-numbered .ensures) (d .decode .ensures)
-    _ _ _ (x .d2 .given .1) (w .write .ensures .0) (w .write .ensures .1)
+    let k = d .before .before .before in
+    let a = k .before .args in
+    decode-promises (a .stream) (now (a .words)) (a .start) (now (a .values)) _ _ (λ j. k .shared-slice-known .given j .fits)
+    (decode-taken (a .stream) (now (a .words)) (a .start) (now (a .values)) _ _ (d .before .stream-numbered .ensures) (d .decode .ensures .0)
+    _ _ _ (x .d2 .given .1) (w .write .ensures .0) (w .write .ensures .1))
 
 pub zlatomruk-decode-spec : {M : Type 1} → statement M
 zlatomruk-decode-spec =

@@ -9,13 +9,13 @@ use Rattle.vectors.proofs.answer.Tie as tie
 
 slice-reshare-prefix-write-all : tie.Need-slice-reshare-prefix-write-all
 slice-reshare-prefix-write-all c =
-    let called = c .before .before .before .before .before .before .before .report-input in
+    let called = c .before .before .before .before .before .report-input in
     let h = written-within _ _ _ (sym (c .before .written .given .1) ∙ called .ensures .0) in
     omega arith
 
 slice-aggregate-write-all : tie.Need-slice-aggregate-write-all
 slice-aggregate-write-all c =
-    let called = c .before .before .before .before .before .before .before .before .report-input in
+    let called = c .before .before .before .before .before .before .report-input in
     let h = written-within _ _ _ (sym (c .before .before .written .given .1) ∙ called .ensures .0) in
     simp length-take (omega arith)
 
@@ -28,8 +28,6 @@ answer-spec =
     slice-reshare-prefix-write-all
     slice-aggregate-write-all
     (λ c κs. search needs)
-    (λ c. search needs)
-    (λ c. search needs)
     (λ c. search needs)
     (λ c. search needs)
     (λ c. search needs)

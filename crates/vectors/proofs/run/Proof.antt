@@ -6,11 +6,10 @@ use Rattle.vectors.proofs.run.Statement.{statement}
 use Rattle.vectors.proofs.run.Tie as tie
 
 abbrev Inv-loop : tie.InvT-loop
-Inv-loop bytes₀ words₀ report₀ left₀ bytes words report left =
-    (length bytes ≡ length bytes₀) × (length words ≡ length words₀) × (length report ≡ length report₀)
+Inv-loop bytes₀ report₀ left₀ bytes report left = (length bytes ≡ length bytes₀) × (length report ≡ length report₀)
 
 abbrev μ-loop : tie.MeasureT-loop
-μ-loop bytes₀ words₀ report₀ left₀ bytes words report left = left
+μ-loop bytes₀ report₀ left₀ bytes report left = left
 
 loop-holds : tie.Need-loop-holds Inv-loop μ-loop
 loop-holds c = search needs
@@ -36,12 +35,6 @@ loop-again c = search needs
 same-length-4 : tie.Need-same-length-4 Inv-loop μ-loop
 same-length-4 c = search needs
 
-same-length-5 : tie.Need-same-length-5 Inv-loop μ-loop
-same-length-5 c = search needs
-
-same-length-6 : tie.Need-same-length-6 Inv-loop μ-loop
-same-length-6 c = search needs
-
 pub run-spec : {M : Type 1} → statement M
 run-spec =
     tie.close
@@ -52,12 +45,10 @@ run-spec =
     (λ c κs. tt)
     same-length
     same-length-2
-    same-length-3
     (λ c. search needs)
     sub-left
     loop-less
     loop-again
+    same-length-3
     same-length-4
-    same-length-5
-    same-length-6
     (λ c. search needs))

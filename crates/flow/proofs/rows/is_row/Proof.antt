@@ -6,13 +6,13 @@ use Rattle.flow.proofs.rows.is_row.Tie as tie
 
 returns : tie.Need-returns
 returns c =
-    let a = c .before .before .before .before .args in
-    other-top (now (a .tops)) (now (a .marks)) (a .place) (a .top) (a .m) _ (c .before .row-at .ensures) (c .if1 .taken)
+    let a = c .before .before .before .before .before .args in
+    other-top (now (a .tops)) (now (a .marks)) (a .place .0) (a .top .0) (a .m) _ (c .before .before .row-at .ensures) (c .if1 .taken)
 
 returns-2 : tie.Need-returns-2
 returns-2 c =
-    let a = c .before .before .before .before .before .args in
-    same-top (now (a .tops)) (now (a .marks)) (a .place) (a .top) (a .m) _ (c .before .before .row-at .ensures) _
+    let a = c .before .before .before .before .before .before .args in
+    same-top (now (a .tops)) (now (a .marks)) (a .place .0) (a .top .0) (a .m) _ (c .before .before .before .row-at .ensures) _
     (c .before .if1 .left)
     (c .row-at2 .ensures)
 

@@ -6,7 +6,7 @@ use Rattle.flow.proofs.rows.row_at.Statement.{statement}
 use Rattle.flow.proofs.rows.row_at.Tie as tie
 
 returns-2 : tie.Need-returns-2
-returns-2 c = let a = c .before .args in row-outside (now (a .numbers)) (a .place) (c .if1 .left)
+returns-2 c = let a = c .before .args in row-outside (now (a .numbers)) (a .place .0) (c .if1 .left)
 
 pub row-at-spec : {M : Type 1} → statement M
 row-at-spec =

@@ -7,12 +7,12 @@ use Rattle.flow.proofs.stacks.else_carried.Tie as tie
 returns : tie.Need-returns
 returns c =
     let a = c .before .before .before .before .args in
-    else-none (now (a .tops)) (now (a .marks)) (a .p) (a .pops) (a .target) _ (c .before .row-at .ensures) (c .if1 .taken)
+    else-none (now (a .tops)) (now (a .marks)) (a .p .0) (a .pops) (a .target .0) _ (c .before .row-at .ensures) (c .if1 .taken)
 
 returns-2 : tie.Need-returns-2
 returns-2 c =
     let a = c .before .before .before .before .before .args in
-    else-some (now (a .tops)) (now (a .marks)) (a .p) (a .pops) (a .target) _ (c .before .before .row-at .ensures) _
+    else-some (now (a .tops)) (now (a .marks)) (a .p .0) (a .pops) (a .target .0) _ (c .before .before .row-at .ensures) _
     (c .before .if1 .left)
     (c .is-carried .ensures)
 

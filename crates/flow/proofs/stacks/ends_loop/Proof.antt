@@ -8,23 +8,23 @@ use Rattle.flow.proofs.stacks.ends_loop.Tie as tie
 returns : tie.Need-returns
 returns c =
     let a = c .before .before .before .before .before .args in
-    ends-none (flowAt (now (a .words))) (now (a .tops)) (now (a .marks)) (a .p) (a .place) _
+    ends-none (flowAt (now (a .words))) (now (a .tops)) (now (a .marks)) (a .p .0) (a .place .0) _
     (c .before .is-loop-end-at .ensures) (c .if1 .taken)
 
 returns-2 : tie.Need-returns-2
 returns-2 c =
     let a = c .before .before .before .before .before .before .before .before .args in
-    ends-other (flowAt (now (a .words))) (now (a .tops)) (now (a .marks)) (a .p) (a .place) _
+    ends-other (flowAt (now (a .words))) (now (a .tops)) (now (a .marks)) (a .p .0) (a .place .0) _
     (c .before .before .before .before .is-loop-end-at .ensures) _ _
-    (c .before .before .row-at .ensures) (c .before .is-next .ensures) (c .before .before .before .if1 .left) (c .if2 .taken)
+    (c .before .before .loop-at .ensures) (c .before .is-next .ensures) (c .before .before .before .if1 .left) (c .if2 .taken)
 
 returns-3 : tie.Need-returns-3
 returns-3 c =
     let a = c .before .before .before .before .before .before .before .before .before .args in
-    ends-own (flowAt (now (a .words))) (now (a .tops)) (now (a .marks)) (a .p) (a .place) _
+    ends-own (flowAt (now (a .words))) (now (a .tops)) (now (a .marks)) (a .p .0) (a .place .0) _
     (c .before .before .before .before .before .is-loop-end-at .ensures) _ _
-    (c .before .before .before .row-at .ensures) (c .before .before .is-next .ensures)
-    (c .before .before .before .before .if1 .left) _ (c .before .if2 .left) (c .row-at2 .ensures)
+    (c .before .before .before .loop-at .ensures) (c .before .before .is-next .ensures)
+    (c .before .before .before .before .if1 .left) _ (c .before .if2 .left) (c .row-at .ensures)
 
 pub ends-loop-spec : {M : Type 1} → statement M
 ends-loop-spec =

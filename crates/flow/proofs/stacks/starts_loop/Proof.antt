@@ -1,5 +1,7 @@
--- `flow::stacks::starts_loop` meets its contract: the stack carried, then the end before the target. Assumes nothing.
+-- `flow::stacks::starts_loop` meets its contract: the end before the target, and the stack carried. Assumes nothing.
+use mathlib.Core.Path.{ap}
 use denote.Ref.{now}
+use Rattle.units.specs.declared.Quadwords.{Quadwords}
 use Rattle.flow.specs.Pairs.{flowAt}
 use Rattle.flow.proofs.OfTests.{starts-off, starts-on}
 use Rattle.flow.proofs.stacks.starts_loop.Statement.{statement}
@@ -7,23 +9,23 @@ use Rattle.flow.proofs.stacks.starts_loop.Tie as tie
 
 returns : tie.Need-returns
 returns c =
-    let a = c .before .before .before .before .before .args in
-    starts-off (flowAt (now (a .words))) (now (a .tops)) (now (a .marks)) (a .p) (a .target) _ (c .before .is-carried .ensures)
-    (c .if1 .taken)
+    let a = c .before .before .before .before .before .before .before .args in
+    starts-off (flowAt (now (a .words))) (now (a .tops)) (now (a .marks)) (a .p .0) (a .target .0) _ _
+    (ap (λ (x : Quadwords). x .0) (c .before .before .quadword-before .ensures)) (c .before .ends-loop .ensures) (c .if1 .taken)
 
 returns-2 : tie.Need-returns-2
 returns-2 c =
     let a = c .before .before .before .before .before .before .before .args in
-    starts-on (flowAt (now (a .words))) (now (a .tops)) (now (a .marks)) (a .p) (a .target) _
-    (c .before .before .before .is-carried .ensures) _ _
-    (c .before .before .if1 .left) (c .before .place-before .ensures) (c .ends-loop .ensures)
+    starts-on (flowAt (now (a .words))) (now (a .tops)) (now (a .marks)) (a .p .0) (a .target .0) _ _
+    (ap (λ (x : Quadwords). x .0) (c .before .before .quadword-before .ensures)) (c .before .ends-loop .ensures) _ (c .if1 .left)
+    (c .before .before .before .is-carried .ensures)
 
 pub starts-loop-spec : {M : Type 1} → statement M
 starts-loop-spec =
     tie.close
     (tie.spec
     (λ c κs. tt)
+    (λ c κs. tt)
+    (λ c κs. tt)
     returns
-    (λ c κs. tt)
-    (λ c κs. tt)
     returns-2)

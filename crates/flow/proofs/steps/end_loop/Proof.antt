@@ -22,10 +22,10 @@ returns-3 c =
 returns-4 : tie.Need-returns-4
 returns-4 c =
     let a = c .before .before .before .before .before .before .before .before .before .before .before .before .args in
-    end-below (a .s) (now (a .tops)) (now (a .marks)) _ _
+    end-below (a .s) (now (a .tops)) (now (a .marks)) _ _ _
     (c .before .before .before .before .before .before .before .before .if1 .left)
     (c .before .before .before .before .before .before .if2 .left) (c .before .before .before .before .if3 .left)
-    (c .before .before .row-at .ensures) (c .before .row-at2 .ensures)
+    (c .before .before .before .quadword-before .ensures) (c .before .before .loop-at .ensures) (c .before .row-at .ensures)
 
 pub end-loop-spec : {M : Type 1} → statement M
 end-loop-spec =
@@ -34,7 +34,7 @@ end-loop-spec =
     returns
     returns-2
     returns-3
-    (λ c. search needs)
+    (λ c κs. tt)
     (λ c κs. tt)
     (λ c κs. tt)
     (λ c. search needs)

@@ -6,10 +6,10 @@ use Rattle.flow.proofs.steps.enter_loop.Statement.{statement}
 use Rattle.flow.proofs.steps.enter_loop.Tie as tie
 
 returns : tie.Need-returns
-returns c = let a = c .before .before .before .args in enter-room (a .limit) (a .s) (a .behind) (omega arith)
+returns c = let a = c .before .before .before .args in enter-room (a .limit) (a .s) (a .behind .0) (omega arith)
 
 returns-2 : tie.Need-returns-2
-returns-2 c = let a = c .before .before .args in enter-deep (a .limit) (a .s) (a .behind) (omega arith)
+returns-2 c = let a = c .before .before .args in enter-deep (a .limit) (a .s) (a .behind .0) (omega arith)
 
 pub enter-loop-spec : {M : Type 1} → statement M
 enter-loop-spec = tie.close (tie.spec (λ c. search needs) returns returns-2)

@@ -13,8 +13,8 @@ returns-2 c =
 
 returns-3 : tie.Need-returns-3
 returns-3 c =
-    let a = c .before .before .before .before .before .before .args in
-    pop-all (a .pops) (a .s) (c .before .before .before .before .if1 .left) (c .before .before .if2 .left)
+    let a = c .before .before .before .before .before .before .before .args in
+    pop-all (a .pops) (a .s) (c .before .before .before .before .before .if1 .left) (c .before .before .before .if2 .left)
 
 pub pop-marks-spec : {M : Type 1} → statement M
 pop-marks-spec = tie.close (tie.spec returns returns-2 returns-3)

@@ -15,7 +15,7 @@ returns-2 c =
 
 returns-3 : tie.Need-returns-3
 returns-3 c =
-    let a = c .before .before .before .before .before .before .args in
+    let a = c .before .before .before .before .before .before .before .args in
     push-room (a .limit) (a .s) (omega arith) (omega arith)
 
 pub push-mark-spec : {M : Type 1} → statement M

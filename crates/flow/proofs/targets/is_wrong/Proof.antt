@@ -13,67 +13,67 @@ returns : tie.Need-returns
 unfolding wrongTarget
 returns c =
     let a = c .before .before .before .args in
-    told-wrong (a .end) (flowAt (now (a .words))) (a .p) (a .flow) _ _ (c .enum-told .given .1) refl
+    told-wrong (a .end .0) (flowAt (now (a .words))) (a .p .0) (a .flow) _ _ (c .enum-told .given .1) refl
 
 returns-2 : tie.Need-returns-2
 unfolding wrongTarget
 returns-2 c =
     let a = c .before .before .before .args in
-    told-wrong (a .end) (flowAt (now (a .words))) (a .p) (a .flow) _ _ (c .enum-told2 .given .1) refl
+    told-wrong (a .end .0) (flowAt (now (a .words))) (a .p .0) (a .flow) _ _ (c .enum-told2 .given .1) refl
 
 returns-3 : tie.Need-returns-3
 unfolding wrongTarget
 returns-3 c =
     let a = c .before .before .before .args in
-    told-wrong (a .end) (flowAt (now (a .words))) (a .p) (a .flow) _ _ (c .enum-told3 .given .1) refl
+    told-wrong (a .end .0) (flowAt (now (a .words))) (a .p .0) (a .flow) _ _ (c .enum-told3 .given .1) refl
 
 returns-4 : tie.Need-returns-4
 unfolding wrongTarget
 returns-4 c =
     let a = c .before .before .before .before .before .args in
-    told-wrong (a .end) (flowAt (now (a .words))) (a .p) (a .flow) _ _ (c .before .before .flow .given .1)
+    told-wrong (a .end .0) (flowAt (now (a .words))) (a .p .0) (a .flow) _ _ (c .before .before .flow .given .1)
     (ap not (c .is-forward .ensures))
 
 returns-5 : tie.Need-returns-5
 unfolding wrongTarget
 returns-5 c =
     let a = c .before .before .before .before .before .args in
-    told-wrong (a .end) (flowAt (now (a .words))) (a .p) (a .flow) _ _ (c .before .before .flow2 .given .1)
+    told-wrong (a .end .0) (flowAt (now (a .words))) (a .p .0) (a .flow) _ _ (c .before .before .flow2 .given .1)
     (ap not (c .hits-loop-end .ensures))
 
 returns-6 : tie.Need-returns-6
 unfolding wrongTarget
 returns-6 c =
     let a = c .before .before .before .before .before .args in
-    told-wrong (a .end) (flowAt (now (a .words))) (a .p) (a .flow) _ _ (c .before .before .flow3 .given .1)
+    told-wrong (a .end .0) (flowAt (now (a .words))) (a .p .0) (a .flow) _ _ (c .before .before .flow3 .given .1)
     (ap not (c .hits-loop-end2 .ensures))
 
 returns-7 : tie.Need-returns-7
 unfolding wrongTarget
 returns-7 c =
     let a = c .before .before .before .before .before .args in
-    told-wrong (a .end) (flowAt (now (a .words))) (a .p) (a .flow) _ _ (c .before .before .flow4 .given .1)
+    told-wrong (a .end .0) (flowAt (now (a .words))) (a .p .0) (a .flow) _ _ (c .before .before .flow4 .given .1)
     (ap not (c .is-forward2 .ensures))
 
 returns-8 : tie.Need-returns-8
 unfolding wrongTarget
 returns-8 c =
     let a = c .before .before .before .before .before .args in
-    told-wrong (a .end) (flowAt (now (a .words))) (a .p) (a .flow) _ _ (c .before .before .flow5 .given .1)
+    told-wrong (a .end .0) (flowAt (now (a .words))) (a .p .0) (a .flow) _ _ (c .before .before .flow5 .given .1)
     (ap not (c .is-forward3 .ensures))
 
 returns-9 : tie.Need-returns-9
 unfolding wrongTarget
 returns-9 c =
     let a = c .before .before .before .before .before .args in
-    told-wrong (a .end) (flowAt (now (a .words))) (a .p) (a .flow) _ _ (c .before .before .flow6 .given .1)
+    told-wrong (a .end .0) (flowAt (now (a .words))) (a .p .0) (a .flow) _ _ (c .before .before .flow6 .given .1)
     (ap not (c .is-forward4 .ensures))
 
 returns-10 : tie.Need-returns-10
 unfolding wrongTarget
 returns-10 c =
     let a = c .before .before .before .before .before .args in
-    told-wrong (a .end) (flowAt (now (a .words))) (a .p) (a .flow) _ _ (c .before .before .flow7 .given .1)
+    told-wrong (a .end .0) (flowAt (now (a .words))) (a .p .0) (a .flow) _ _ (c .before .before .flow7 .given .1)
     (ap not (c .is-backward .ensures))
 
 pub is-wrong-spec : {M : Type 1} → statement M

@@ -7,7 +7,7 @@ use Rattle.groups.proofs.alu_units.is_uneven.Tie as tie
 
 returns : tie.Need-returns
 unfolding isUneven
-returns c = let a = c .before .args in λ i. ltb (a .j) 4 && not (eqb (a .unit) (a .j) && c .is-alike .ensures i)
+returns c = let a = c .before .before .before .args in λ i. ltb (a .j .0) 4 && not (eqb (a .unit) (a .j .0) && c .is-alike .ensures i)
 
 pub is-uneven-spec : {M : Type 1} → statement M
 is-uneven-spec = tie.close (tie.spec (λ c κs. tt) returns)

@@ -1,4 +1,4 @@
--- `pack::load` meets its contract: word by word, the words so far stand in front of what stood there. Assumes nothing.
+-- `pack::words::load` meets its contract: word by word, the room begins with the words so far. Assumes nothing.
 use borrow.Author.Needs.{needs}
 use Prim.Native.Nat.{_-_}
 use Rattle.pack.proofs.OfWords.{Loading, none-loaded, one-more-loaded, all-loaded}
@@ -13,8 +13,8 @@ abbrev μ-loop : tie.MeasureT-loop
 
 loop-holds : tie.Need-loop-holds Inv-loop μ-loop
 loop-holds c =
-    let a = c .before .before .before .args in
-    none-loaded (a .bytes .now) (a .words .now) (c .least .result) (c .least .ensures)
+    let a = c .before .before .args in
+    none-loaded (a .bytes .now) (a .words .now) _ (search needs) (search needs)
 
 mul-word-at : tie.Need-mul-word-at Inv-loop μ-loop
 mul-word-at c = search needs
@@ -49,7 +49,6 @@ load-spec =
     (tie.spec
     Inv-loop
     μ-loop
-    (λ c κs. tt)
     loop-holds
     mul-word-at
     word-at-requires

@@ -1,2 +1,0 @@
--- The root of what the contracts cite.
-pub mod Again
