@@ -64,7 +64,7 @@ pub(crate) fn refused(rule: Rule, place: Place) -> Verdict
     ensures { λ r. ⌜ r ≡ Refused rule place (counts.slots 0) ⌝ }
 {
     let slot = Slots(0);
-    Verdict::Refused { rule, place, slot }
+    Verdict::Refused { slot, rule, place }
 }
 
 // The section ends at pair `e`. Most sections are short, and rows for a long one would cost more than judging them.
