@@ -3,5 +3,6 @@ pub mod OfRead
 pub mod OfScreen
 pub mod OfClause
 pub mod OfStep
+pub mod OfPlace
 pub mod OfNames
 pub mod Examples

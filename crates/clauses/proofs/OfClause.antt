@@ -1,15 +1,14 @@
 -- A clause, group by group: the groups passed break nothing, so the verdict is that of the groups left. Assumes nothing.
-use Prim.Native.Nat.{ℕ, zero, suc, _+_, _-_, _/_, _≤_, _<_, _^_}
+use Prim.Native.Nat.{ℕ, zero, suc, _+_, _-_, _≤_, _<_}
 use mathlib.Core.Path.{_≡_, refl, sym, ap, _∙_}
 use mathlib.Core.Bool.{Bool, true, false, cond, not, _&&_}
 use mathlib.Core.List.{List, [], _∷_, _++_}
 use lib.ListN.{length}
-use borrow.Author.Tests.{lt-ltb, le-ltb, ltb-true, leb-true, not-false}
+use borrow.Author.Tests.{lt-ltb, le-ltb}
 use native.Mathlib.Omega.{arith}
 use Rattle.units.specs.declared.Quadwords.{Quadwords}
 use Rattle.units.specs.declared.Slots.{Slots}
-use Rattle.units.specs.Units.{quadwords, words, slots, quadwordsIn64, slotsIn64, slotQuadword, slotBehind, slotsLeft, isSlotBelow}
-use Rattle.units.proofs.OfUnits.{capped-exact}
+use Rattle.units.specs.Units.{words, slots, slotQuadword, slotBehind, slotsLeft}
 use Rattle.checks.specs.declared.Rule.{Rule}
 use Rattle.checks.specs.declared.Rule.the-variants.{GroupShape, IssueLimit}
 use Rattle.checks.specs.declared.Place.the-variants.{Quadword}
@@ -27,36 +26,8 @@ use Rattle.groups.specs.Group.{setters, ruleChecks}
 use Rattle.groups.specs.Seen.{countOf, together, isOne, seenOf, faultOf}
 use Rattle.groups.proofs.OfGroup.{counted-together, counts-one, answer, group-answer}
 use Rattle.clauses.specs.Clause.{lowOf, highOf, sizeOf, spanOf, badShape, groupsFrom, groupsOf, isPixel, mayKill, groupChecks, checksOf, settersIn, badPush, insideBuffer, clauseChecks}
-use Rattle.clauses.specs.Read.{Readable, pushVerdict}
+use Rattle.clauses.specs.Read.{pushVerdict}
 use Rattle.clauses.proofs.OfRead.{shaped}
-
--- ---- in the buffer, every number on the way is exact
-
-module _ (w : List ℕ) (h : length w < 2 ^ 64) (s : Quadwords) (n g : Slots) {t : Bool} (e : t ≡ insideBuffer (words (length w)) s n)
-    (y : not t ≡ false) {b : Bool} (x : b ≡ isSlotBelow g n) (z : b ≡ true) where
-  pub below-end : g .0 < n .0
-  below-end = ltb-true (g .0) (n .0) (sym x ∙ z)
-
-  reach : s .0 + n .0 ≤ length w / 2
-  unfolding insideBuffer
-  reach = leb-true (s .0 + n .0) (length w / 2) (sym e ∙ not-false t y)
-
-  -- the quadword of slot g
-  pub at-there : {at : Quadwords} → at ≡ quadwordsIn64 (slotQuadword s g) → at ≡ slotQuadword s g
-  at-there f = f ∙ ap quadwords (capped-exact (s .0 + g .0) (omega (arith, below-end, reach)))
-
-  -- the slots from there on can be read
-  pub readable :
-      {at : Quadwords} {left : Slots} → at ≡ quadwordsIn64 (slotQuadword s g) → left ≡ slotsLeft n g → Readable w at left
-  readable {at = at} {left = left} f d =
-      let a : at .0 ≡ s .0 + g .0 = ap (λ (q : Quadwords). q .0) (at-there f) in
-      let l : left .0 ≡ n .0 - g .0 = ap (λ (q : Slots). q .0) d in
-      record { some = omega (arith, below-end, l); inside = omega (arith, below-end, reach, a, l) }
-
-  -- a slot of the clause behind g
-  pub behind-there :
-      {x m : Slots} → x ≡ slotsIn64 (slotBehind g m) → m .0 ≤ n .0 - g .0 → x ≡ slotBehind g m
-  behind-there {m = m} f l = f ∙ ap slots (capped-exact (g .0 + m .0) (omega (arith, below-end, reach, l)))
 
 -- ---- PUSH_BEFORE's count
 

@@ -53,18 +53,20 @@ pub fn alu_clause(
     let starts = screens::gap_starts(limits);
     let widths = screens::gap_widths(limits);
     let mut setters = Count::Nothing;
-    let mut g = Slots(0);
-    while units::is_slot_below(g, slots) {
-        let at = units::slot_quadword(start, g);
-        let left = units::slots_left(slots, g);
+    // The next group: the quadword of its first slot, and the slots left from there on.
+    let mut at = start;
+    let mut left = slots;
+    while units::is_slot_below(Slots(0), left) {
         let step = next_group(words, at, left, limits, &starts, &widths, pixel);
         match step {
             Step::Broken(rule, behind) => {
-                return refused(rule, place, units::slot_behind(g, behind));
+                let passed = units::slots_left(slots, left);
+                return refused(rule, place, units::slot_behind(passed, behind));
             }
             Step::Passed(span, own) => {
                 setters = groups::counts::together(setters, own);
-                g = units::slot_behind(g, span);
+                at = units::slot_quadword(at, span);
+                left = units::slots_left(left, span);
             }
         }
     }

@@ -8,6 +8,7 @@ use instructions::class_of;
 use opcodes::alu::Class;
 use units::Quadwords;
 use units::Slots;
+use units::Words;
 ghost use mathlib.Core.Path.{_≡_};
 ghost use Prim.Native.Nat.{_≤_, _<_, min};
 ghost use Rattle.bits.specs.Fields.{fieldOf};
@@ -76,6 +77,10 @@ pub(crate) fn screen_group(
     requires { ⌜ Readable (now words) at left ⌝ }
     ensures { λ r. ⌜ ScreenedBy (now (starts .entry)) (now (widths .entry)) (now (words .entry)) at left pixel r ⌝ }
 {
+    // It is in the buffer; asked here, it shows the compiler that no word's number reaches the cap.
+    if !units::is_below(at, units::whole_quadwords(Words(words.len()))) {
+        return again();
+    }
     // Words are counted plainly inside a group, whose instruction j starts 2j words behind its first: this loop is the judge's innermost.
     let first = units::low_word(at).0;
     let first_high = words[first + 1];

@@ -115,6 +115,7 @@ pub fn second_pass(words: &[u32], pairs: Quadwords, tops: &[usize], marks: &[usi
     let end = units::quadword_before(pairs);
     let mut p = Quadwords(0);
     while units::is_below(p, pairs) {
+        let start = rows::start_at(tops, p);
         let flow = targets::flow_at(words, p);
         if targets::is_wrong(words, flow, end, p) {
             return Verdict::Refused {
@@ -123,7 +124,7 @@ pub fn second_pass(words: &[u32], pairs: Quadwords, tops: &[usize], marks: &[usi
                 slot: Slots(0),
             };
         }
-        if stacks::differ(words, flow, p, tops, marks) {
+        if stacks::differ(words, flow, p, start, tops, marks) {
             return Verdict::Refused {
                 rule: Rule::StacksDiffer,
                 place: Place::Quadword(p),

@@ -4,7 +4,6 @@ use crate::rows::is_carried;
 use crate::rows::is_row;
 use crate::rows::loop_at;
 use crate::rows::row_at;
-use crate::rows::start_at;
 use crate::targets::is_loop_end_at;
 use units::Quadwords;
 ghost use mathlib.Core.Path.{_≡_};
@@ -95,17 +94,18 @@ fn goes_back(
     is_row(tops, marks, target, target, 0)
 }
 
-// Rule 19 at p, where `flow` stands.
+// Rule 19 at p, where `flow` stands; `start` is the innermost loop's.
 pub(crate) fn differ(
     words: &[u32],
     flow: Flow,
     p: Quadwords,
+    start: Quadwords,
     tops: &[usize],
     marks: &[usize],
 ) -> bool
+    requires { ⌜ start ≡ quadwordBefore (quadwords (getD (now tops) (p .0) 0)) ⌝ }
     ensures { λ r. ⌜ r ≡ rowDiffers (flowAt (now (words .entry))) (now (tops .entry)) (now (marks .entry)) (p .0) flow ⌝ }
 {
-    let start = start_at(tops, p);
     match flow {
         Flow::Still => false,
         Flow::PushMark => false,

@@ -28,9 +28,9 @@ loop-holds c = (omega arith, below-none _)
 returns : tie.Need-returns Inv-loop μ-loop
 returns c =
     let here = c .before .before in
-    let loop = here .before .before .before in
+    let loop = here .before .before .before .before in
     let a = loop .before .before .before .before .before .args in
-    let below = ltb-true (loop .loop .p .0) (a .pairs .0) (sym (here .before .before .is-below .ensures) ∙ here .before .if1 .taken) in
+    let below = ltb-true (loop .loop .p .0) (a .pairs .0) (sym (here .before .before .before .is-below .ensures) ∙ here .before .before .if1 .taken) in
     pass-target (flowAt (now (a .words))) (a .pairs) _ (loop .before .quadword-before .ensures) (now (a .tops)) (now (a .marks)) _
     (loop .loop .inv .1) _ (here .flow-at .ensures) _
     (c .before .is-wrong .ensures) below (c .if2 .taken)
@@ -38,9 +38,9 @@ returns c =
 returns-2 : tie.Need-returns-2 Inv-loop μ-loop
 returns-2 c =
     let here = c .before .before .before .before in
-    let loop = here .before .before .before in
+    let loop = here .before .before .before .before in
     let a = loop .before .before .before .before .before .args in
-    let below = ltb-true (loop .loop .p .0) (a .pairs .0) (sym (here .before .before .is-below .ensures) ∙ here .before .if1 .taken) in
+    let below = ltb-true (loop .loop .p .0) (a .pairs .0) (sym (here .before .before .before .is-below .ensures) ∙ here .before .before .if1 .taken) in
     pass-stack (flowAt (now (a .words))) (a .pairs) _ (loop .before .quadword-before .ensures) (now (a .tops)) (now (a .marks)) _
     (loop .loop .inv .1) _ (here .flow-at .ensures) _
     (c .before .before .before .is-wrong .ensures) below _ (c .before .before .if2 .left) (c .before .differ .ensures) (c .if3 .taken)
@@ -48,9 +48,9 @@ returns-2 c =
 loop-less : tie.Need-loop-less Inv-loop μ-loop
 loop-less c =
     let here = c .before .before .before .before .before in
-    let loop = here .before .before .before in
+    let loop = here .before .before .before .before in
     let a = loop .before .before .before .before .before .args in
-    let below = ltb-true (loop .loop .p .0) (a .pairs .0) (sym (here .before .before .is-below .ensures) ∙ here .before .if1 .taken) in
+    let below = ltb-true (loop .loop .p .0) (a .pairs .0) (sym (here .before .before .before .is-below .ensures) ∙ here .before .before .if1 .taken) in
     let few : a .pairs .0 < 2 ^ 64 = omega (arith, loop .before .before .before .before .before .good .1 .0) in
     let next = behind-exact (loop .loop .p) _ (c .quadword-behind .ensures) (omega (arith, below, few)) in
     omega (arith, below, next)
@@ -58,9 +58,9 @@ loop-less c =
 loop-again : tie.Need-loop-again Inv-loop μ-loop
 loop-again c =
     let here = c .before .before .before .before .before in
-    let loop = here .before .before .before in
+    let loop = here .before .before .before .before in
     let a = loop .before .before .before .before .before .args in
-    let below = ltb-true (loop .loop .p .0) (a .pairs .0) (sym (here .before .before .is-below .ensures) ∙ here .before .if1 .taken) in
+    let below = ltb-true (loop .loop .p .0) (a .pairs .0) (sym (here .before .before .before .is-below .ensures) ∙ here .before .before .if1 .taken) in
     let few : a .pairs .0 < 2 ^ 64 = omega (arith, loop .before .before .before .before .before .good .1 .0) in
     let next = behind-exact (loop .loop .p) _ (c .quadword-behind .ensures) (omega (arith, below, few)) in (
       omega (arith, below, next),
@@ -89,8 +89,9 @@ second-pass-spec =
     (λ c κs. tt)
     (λ c κs. tt)
     (λ c κs. tt)
-    returns
     (λ c κs. tt)
+    returns
+    (λ c κs. c .before .before .before .start-at .ensures)
     returns-2
     (λ c κs. tt)
     loop-less

@@ -18,100 +18,117 @@ Inv-loop words left starts widths pixel first first-high most literals₀ taken�
 abbrev μ-loop : tie.MeasureT-loop
 μ-loop words left starts widths pixel first first-high most literals₀ taken₀ issues₀ j₀ literals taken issues j = most - j
 
+returns : tie.Need-returns Inv-loop μ-loop
+returns c =
+    let a = c .before .before .before .before .before .args in
+    screening-not (now (a .words)) (a .at) (a .left) (now (a .starts)) (now (a .widths)) (a .pixel) (c .again .ensures)
+
 add-first-high : tie.Need-add-first-high Inv-loop μ-loop
 add-first-high c =
     let low = c in
-    let a = low .before .before .args in
-    let f = frame (low .before .before .pre) (search needs) (low .low-word .ensures) in
-    omega (arith, f .0, f .1, low .before .before .pre .some)
+    let start = low .before .before .before .before .before in
+    let a = start .args in
+    let f = frame (start .pre) (search needs) (low .low-word .ensures) in
+    omega (arith, f .0, f .1, start .pre .some)
 
 mul-first-high : tie.Need-mul-first-high Inv-loop μ-loop
 mul-first-high c =
     let low = c in
-    let a = low .before .before .args in
-    let f = frame (low .before .before .pre) (search needs) (low .low-word .ensures) in
-    omega (arith, f .0, f .1, low .before .before .pre .some)
+    let start = low .before .before .before .before .before in
+    let a = start .args in
+    let f = frame (start .pre) (search needs) (low .low-word .ensures) in
+    omega (arith, f .0, f .1, start .pre .some)
 
 shared-slice-read-first-high : tie.Need-shared-slice-read-first-high Inv-loop μ-loop
 shared-slice-read-first-high c =
     let low = c .before in
-    let a = low .before .before .args in
-    let f = frame (low .before .before .pre) (search needs) (low .low-word .ensures) in
-    omega (arith, f .0, f .1, low .before .before .pre .some)
+    let start = low .before .before .before .before .before in
+    let a = start .args in
+    let f = frame (start .pre) (search needs) (low .low-word .ensures) in
+    omega (arith, f .0, f .1, start .pre .some)
 
 loop-holds : tie.Need-loop-holds Inv-loop μ-loop
 loop-holds c at e =
-    let a = c .before .before .before .before .before .before .args in
+    let a = c .before .before .before .before .before .before .before .before .before .args in
     screening-none (now (a .words)) at (a .left) (now (a .starts)) (now (a .widths)) (first-high (now (a .words)) at e)
     (c .before .none-seen .ensures)
 
 mul-low : tie.Need-mul-low Inv-loop μ-loop
 mul-low c =
     let low = c .before .before .before .before .before .before in
-    let a = low .before .before .args in
-    let f = frame (low .before .before .pre) (search needs) (low .low-word .ensures) in
+    let start = low .before .before .before .before .before in
+    let a = start .args in
+    let f = frame (start .pre) (search needs) (low .low-word .ensures) in
     omega (arith, f .0, f .1, c .before .before .before .before .most-instructions .ensures, c .loop-test .taken)
 
 add-low : tie.Need-add-low Inv-loop μ-loop
 add-low c =
     let low = c .before .before .before .before .before .before in
-    let a = low .before .before .args in
-    let f = frame (low .before .before .pre) (search needs) (low .low-word .ensures) in
+    let start = low .before .before .before .before .before in
+    let a = start .args in
+    let f = frame (start .pre) (search needs) (low .low-word .ensures) in
     omega (arith, f .0, f .1, c .before .before .before .before .most-instructions .ensures, c .loop-test .taken)
 
 mul-low-2 : tie.Need-mul-low-2 Inv-loop μ-loop
 mul-low-2 c =
     let low = c .before .before .before .before .before .before in
-    let a = low .before .before .args in
-    let f = frame (low .before .before .pre) (search needs) (low .low-word .ensures) in
+    let start = low .before .before .before .before .before in
+    let a = start .args in
+    let f = frame (start .pre) (search needs) (low .low-word .ensures) in
     omega (arith, f .0, f .1, c .before .before .before .before .most-instructions .ensures, c .loop-test .taken)
 
 shared-slice-read-low : tie.Need-shared-slice-read-low Inv-loop μ-loop
 shared-slice-read-low c =
     let low = c .before .before .before .before .before .before .before in
-    let a = low .before .before .args in
-    let f = frame (low .before .before .pre) (search needs) (low .low-word .ensures) in
+    let start = low .before .before .before .before .before in
+    let a = start .args in
+    let f = frame (start .pre) (search needs) (low .low-word .ensures) in
     omega (arith, f .0, f .1, c .before .before .before .before .before .most-instructions .ensures, c .before .loop-test .taken)
 
 mul-high : tie.Need-mul-high Inv-loop μ-loop
 mul-high c =
     let low = c .before .before .before .before .before .before .before in
-    let a = low .before .before .args in
-    let f = frame (low .before .before .pre) (search needs) (low .low-word .ensures) in
+    let start = low .before .before .before .before .before in
+    let a = start .args in
+    let f = frame (start .pre) (search needs) (low .low-word .ensures) in
     omega (arith, f .0, f .1, c .before .before .before .before .before .most-instructions .ensures, c .before .loop-test .taken)
 
 add-high : tie.Need-add-high Inv-loop μ-loop
 add-high c =
     let low = c .before .before .before .before .before .before .before in
-    let a = low .before .before .args in
-    let f = frame (low .before .before .pre) (search needs) (low .low-word .ensures) in
+    let start = low .before .before .before .before .before in
+    let a = start .args in
+    let f = frame (start .pre) (search needs) (low .low-word .ensures) in
     omega (arith, f .0, f .1, c .before .before .before .before .before .most-instructions .ensures, c .before .loop-test .taken)
 
 add-high-2 : tie.Need-add-high-2 Inv-loop μ-loop
 add-high-2 c =
     let low = c .before .before .before .before .before .before .before in
-    let a = low .before .before .args in
-    let f = frame (low .before .before .pre) (search needs) (low .low-word .ensures) in
+    let start = low .before .before .before .before .before in
+    let a = start .args in
+    let f = frame (start .pre) (search needs) (low .low-word .ensures) in
     omega (arith, f .0, f .1, c .before .before .before .before .before .most-instructions .ensures, c .before .loop-test .taken)
 
 mul-high-2 : tie.Need-mul-high-2 Inv-loop μ-loop
 mul-high-2 c =
     let low = c .before .before .before .before .before .before .before in
-    let a = low .before .before .args in
-    let f = frame (low .before .before .pre) (search needs) (low .low-word .ensures) in
+    let start = low .before .before .before .before .before in
+    let a = start .args in
+    let f = frame (start .pre) (search needs) (low .low-word .ensures) in
     omega (arith, f .0, f .1, c .before .before .before .before .before .most-instructions .ensures, c .before .loop-test .taken)
 
 shared-slice-read-high : tie.Need-shared-slice-read-high Inv-loop μ-loop
 shared-slice-read-high c =
     let low = c .before .before .before .before .before .before .before .before in
-    let a = low .before .before .args in
-    let f = frame (low .before .before .pre) (search needs) (low .low-word .ensures) in
+    let start = low .before .before .before .before .before in
+    let a = start .args in
+    let f = frame (start .pre) (search needs) (low .low-word .ensures) in
     omega (arith, f .0, f .1, c .before .before .before .before .before .before .most-instructions .ensures, c .before .before .loop-test .taken)
 
-returns : tie.Need-returns Inv-loop μ-loop
-returns c =
-    let a = c .before .before .before .before .before .before .before .before .before .before .before .before .before .before .before .args in
-    screening-not (now (a .words)) (a .at) (a .left) (now (a .starts)) (now (a .widths)) (a .pixel) (c .again .ensures)
+returns-2 : tie.Need-returns-2 Inv-loop μ-loop
+returns-2 c =
+    let a = c .before .before .before .before .before .before .before .before .before .before .before .before .before .before .before .before .before .before .args in
+    screening-not (now (a .words)) (a .at) (a .left) (now (a .starts)) (now (a .widths)) (a .pixel) (c .again2 .ensures)
 
 add-j : tie.Need-add-j Inv-loop μ-loop
 add-j c = omega (arith, c .before .before .before .before .before .before .before .before .before .before .before .before .before .before .before .most-instructions .ensures, c .before .before .before .before .before .before .before .before .before .before .before .loop-test .taken)
@@ -119,11 +136,12 @@ add-j c = omega (arith, c .before .before .before .before .before .before .befor
 close-requires : tie.Need-close-requires Inv-loop μ-loop
 close-requires c κs = omega (arith, c .before .before .before .before .before .before .before .before .before .before .before .before .before .before .before .before .before .most-instructions .ensures, c .before .before .before .before .before .before .before .before .before .before .before .before .before .loop-test .taken)
 
-returns-2 : tie.Need-returns-2 Inv-loop μ-loop
-returns-2 c =
+returns-3 : tie.Need-returns-3 Inv-loop μ-loop
+returns-3 c =
     let low = c .before .before .before .before .before .before .before .before .before .before .before .before .before .before .before .before .before .before .before .before in
-    let a = low .before .before .args in
-    let f = frame (low .before .before .pre) (search needs) (low .low-word .ensures) in
+    let start = low .before .before .before .before .before in
+    let a = start .args in
+    let f = frame (start .pre) (search needs) (low .low-word .ensures) in
     let j = c .before .before .before .before .before .before .before .before .before .before .before .before .before .before .before .loop .j in
     screening-last (now (a .words)) (a .at) (a .left) (now (a .starts)) (now (a .widths)) (c .before .before .before .before .before .before .before .before .before .before .before .before .before .before .before .loop .inv (a .at) (f .0))
     (omega (arith, c .before .before .before .before .before .before .before .before .before .before .before .before .before .before .before .before .before .before .most-instructions .ensures, c .before .before .before .before .before .before .before .before .before .before .before .before .before .before .loop-test .taken))
@@ -132,21 +150,21 @@ returns-2 c =
     (c .before .before .before .before .before .before .before .before .before .before .before .class-of .ensures)
     (c .before .before .before .before .before .before .before .before .before .before .unit-of .ensures)
     (c .before .before .before .before .before .before .before .before .before .is-wrong .ensures)
-    (c .before .before .before .before .before .before .before .before .if1 .left)
+    (c .before .before .before .before .before .before .before .before .if2 .left)
     (c .before .before .before .before .before .before .before .has-relative .ensures)
     (c .before .before .before .before .before .before .is-uneven .ensures)
     (c .before .before .before .before .before .next-issues .ensures)
     (c .before .before .before .before .more-literals .ensures)
     (c .before .before .before .occupy .ensures)
     (c .before .before .field .ensures)
-    (c .before .if2 .taken) (a .pixel) (c .close .ensures)
+    (c .before .if3 .taken) (a .pixel) (c .close .ensures)
 
 loop-less : tie.Need-loop-less Inv-loop μ-loop
 loop-less c = omega (arith, c .before .before .before .before .before .before .before .before .before .before .before .before .before .before .before .before .before .most-instructions .ensures, c .before .before .before .before .before .before .before .before .before .before .before .before .before .loop-test .taken)
 
 loop-again : tie.Need-loop-again Inv-loop μ-loop
 loop-again c at e =
-    let a = c .before .before .before .before .before .before .before .before .before .before .before .before .before .before .before .before .before .before .before .before .before .args in
+    let a = c .before .before .before .before .before .before .before .before .before .before .before .before .before .before .before .before .before .before .before .before .before .before .before .before .args in
     let j = c .before .before .before .before .before .before .before .before .before .before .before .before .before .before .loop .j in
     screening-next (now (a .words)) at (a .left) (now (a .starts)) (now (a .widths)) (c .before .before .before .before .before .before .before .before .before .before .before .before .before .before .loop .inv at e)
     (omega (arith, c .before .before .before .before .before .before .before .before .before .before .before .before .before .before .before .before .before .most-instructions .ensures, c .before .before .before .before .before .before .before .before .before .before .before .before .before .loop-test .taken))
@@ -155,19 +173,19 @@ loop-again c at e =
     (c .before .before .before .before .before .before .before .before .before .before .class-of .ensures)
     (c .before .before .before .before .before .before .before .before .before .unit-of .ensures)
     (c .before .before .before .before .before .before .before .before .is-wrong .ensures)
-    (c .before .before .before .before .before .before .before .if1 .left)
+    (c .before .before .before .before .before .before .before .if2 .left)
     (c .before .before .before .before .before .before .has-relative .ensures)
     (c .before .before .before .before .before .is-uneven .ensures)
     (c .before .before .before .before .next-issues .ensures)
     (c .before .before .before .more-literals .ensures)
     (c .before .before .occupy .ensures)
     (c .before .field .ensures)
-    (c .if2 .left)
+    (c .if3 .left)
 
-returns-3 : tie.Need-returns-3 Inv-loop μ-loop
-returns-3 c =
-    let a = c .before .before .before .before .before .before .before .before .before .args in
-    screening-not (now (a .words)) (a .at) (a .left) (now (a .starts)) (now (a .widths)) (a .pixel) (c .again2 .ensures)
+returns-4 : tie.Need-returns-4 Inv-loop μ-loop
+returns-4 c =
+    let a = c .before .before .before .before .before .before .before .before .before .before .before .before .args in
+    screening-not (now (a .words)) (a .at) (a .left) (now (a .starts)) (now (a .widths)) (a .pixel) (c .again3 .ensures)
 
 pub screen-group-spec : {M : Type 1} → statement M
 screen-group-spec =
@@ -175,6 +193,10 @@ screen-group-spec =
     (tie.spec
     Inv-loop
     μ-loop
+    (λ c κs. tt)
+    (λ c κs. tt)
+    (λ c κs. tt)
+    returns
     (λ c κs. tt)
     add-first-high
     mul-first-high
@@ -195,7 +217,7 @@ screen-group-spec =
     (λ c κs. tt)
     (λ c κs. tt)
     (λ c κs. tt)
-    returns
+    returns-2
     (λ c κs. tt)
     (λ c κs. tt)
     (λ c κs. tt)
@@ -204,8 +226,8 @@ screen-group-spec =
     add-j
     (λ c κs. tt)
     close-requires
-    returns-2
+    returns-3
     loop-less
     loop-again
     (λ c κs. tt)
-    returns-3)
+    returns-4)
