@@ -113,7 +113,7 @@ pub fn slot_quadword(start: Quadwords, s: Slots) -> Quadwords
 pub fn ends_by(start: Quadwords, size: Quadwords, limit: Quadwords) -> bool
     ensures { λ r. ⌜ r ≡ count.isAtMost (count.rangeEnd start size) limit ⌝ }
 {
-    if limit.0 < start.0 {
+    if limit.0 < size.0 {
         return false;
     }
     if LARGEST - start.0 < size.0 {
