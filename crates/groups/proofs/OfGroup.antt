@@ -21,10 +21,8 @@ use Rattle.grants.specs.declared.Limits.{Limits}
 use Rattle.grants.specs.Grants.{Name, granted, allGranted}
 use Rattle.grants.proofs.OfGrants.{each-granted}
 use Rattle.instructions.specs.Instruction.{classOf, badNumber, badField, literals, named}
-use Rattle.groups.specs.declared.counts.Count.the-variants.{One, Several}
 use Rattle.groups.specs.declared.First.{First}
 use Rattle.groups.specs.declared.First.the-variants.{Nowhere, At}
-use Rattle.groups.specs.declared.Seen.{Seen}
 use Rattle.groups.specs.declared.GroupFault.{GroupFault}
 use Rattle.groups.specs.declared.GroupFault.the-variants.{Clean, Broken}
 use Rattle.groups.specs.Group.{PerInstruction, countBelow, anyBelow, literalsBelow, takenBefore, unitAt, badUnitAt, isSetter, isKill, setters, settersAndKills, anyKill, anyMova, anyRelative, anyReduction, anyUneven, badIssue, eachOf, ruleChecks}

@@ -1,7 +1,7 @@
 -- Questions about one instruction, by tests that are joined and not branched on. Assumes nothing.
 use mathlib.Core.Path.{_≡_, refl, sym, ap, _∙_}
 use mathlib.Core.Bool.{Bool, true, false, cond, not, _&&_, _||_, and-true}
-use mathlib.Core.List.{List, [], _∷_, _++_}
+use mathlib.Core.List.{[], _∷_}
 use Prim.Native.Nat.{ℕ, max}
 use native.Mathlib.Omega.{arith}
 use lib.Dec.{eqb, ltb, leb}
@@ -9,7 +9,7 @@ use borrow.Author.Tests.{lt-leb, le-leb, ltb-true, ltb-false}
 use Rattle.bits.specs.Fields.{fieldOf}
 use Rattle.opcodes.specs.Alu.{op2Class, op3Class}
 use Rattle.grants.specs.declared.Limits.{Limits}
-use Rattle.grants.specs.Grants.{Name, aluRegister, granted, allGranted, sourceNames}
+use Rattle.grants.specs.Grants.{aluRegister, granted, allGranted, sourceNames}
 use Rattle.grants.proofs.OfGrants.{all-joined}
 use Rattle.instructions.specs.declared.Source.{Source}
 use Rattle.instructions.specs.Instruction.{isOp3, classOf, source0Of, source1Of, source2Of, noSource, thirdOf, isRelative, sourceLiterals, literals, badSource, badField, hasRelative, isWritten, destinationNames, namesOf, named}

@@ -6,7 +6,7 @@ use Prim.Native.Nat.{ℕ, _*_, _/_, _%_, _≤_}
 use native.Mathlib.Omega.{arith}
 use borrow.Author.Tests.{eq-eqb, ne-eqb, eqb-true, eqb-false, not-true, not-false}
 use lib.Dec.{eqb}
-use lib.ListN.{length, take, drop}
+use lib.ListN.{length, drop}
 use Rattle.units.specs.declared.Quadwords.{Quadwords}
 use Rattle.checks.specs.declared.Verdict.{Verdict}
 use Rattle.card.specs.Card.{cardOf, testOf}

@@ -1,6 +1,6 @@
 -- `grants::source_granted` meets its contract: one test for each kind of source. Assumes nothing.
 use borrow.Author.Needs.{needs}
-use mathlib.Core.Path.{_≡_, _∙_}
+use mathlib.Core.Path.{_∙_}
 use mathlib.Core.Bool.{_&&_, _||_}
 use Prim.Native.Nat.{_+_}
 use lib.Dec.{ltb, leb}

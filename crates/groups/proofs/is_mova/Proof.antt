@@ -1,6 +1,6 @@
 -- `groups::is_mova` meets its contract, variant by variant. Assumes nothing.
 use borrow.Author.Needs.{needs}
-use mathlib.Core.Path.{_≡_, sym, ap}
+use mathlib.Core.Path.{sym, ap}
 use Rattle.groups.specs.Group.{isMova}
 use Rattle.groups.proofs.is_mova.Statement.{statement}
 use Rattle.groups.proofs.is_mova.Tie as tie

@@ -1,6 +1,6 @@
 -- `groups::next_issues` meets its contract, figure by figure. Assumes nothing.
 use mathlib.Core.Bool.{_||_}
-use mathlib.Core.Path.{_≡_, _∙_}
+use mathlib.Core.Path.{_∙_}
 use Rattle.groups.specs.Seen.{countedIf, nextIssues}
 use Rattle.groups.proofs.next_issues.Statement.{statement}
 use Rattle.groups.proofs.next_issues.Tie as tie

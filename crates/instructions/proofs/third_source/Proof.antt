@@ -1,6 +1,4 @@
 -- `instructions::third_source` meets its contract. Assumes nothing.
-use mathlib.Core.Path.{_≡_, _∙_}
-use mathlib.Core.Bool.{cond}
 use Rattle.instructions.proofs.OfInstruction.{third-made}
 use Rattle.instructions.proofs.third_source.Statement.{statement}
 use Rattle.instructions.proofs.third_source.Tie as tie

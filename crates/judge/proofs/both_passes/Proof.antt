@@ -2,7 +2,6 @@
 use borrow.Author.Needs.{needs}
 use borrow.Author.Tests.{ltb-true}
 use mathlib.Core.Path.{sym, _∙_}
-use native.Mathlib.Omega.{arith}
 use Rattle.judge.proofs.both_passes.Statement.{statement}
 use Rattle.judge.proofs.both_passes.Tie as tie
 

@@ -1,8 +1,6 @@
 -- `clauses::screen::close` meets its contract. Assumes nothing.
 use borrow.Author.Needs.{needs}
 use Prim.Native.Nat.{_<_, _^_}
-use mathlib.Core.Path.{refl, sym, ap, _∙_}
-use mathlib.Core.Bool.{not, _&&_}
 use Rattle.clauses.proofs.OfScreen.{closes-not, closes}
 use Rattle.clauses.proofs.screen.close.Statement.{statement}
 use Rattle.clauses.proofs.screen.close.Tie as tie

@@ -1,6 +1,6 @@
 -- `groups::alu_units::is_any` meets its contract, variant by variant. Assumes nothing.
 use borrow.Author.Needs.{needs}
-use mathlib.Core.Path.{_≡_, sym, ap}
+use mathlib.Core.Path.{sym, ap}
 use Rattle.groups.specs.Group.{isAny}
 use Rattle.groups.proofs.alu_units.is_any.Statement.{statement}
 use Rattle.groups.proofs.alu_units.is_any.Tie as tie

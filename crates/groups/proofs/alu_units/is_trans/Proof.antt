@@ -1,6 +1,6 @@
 -- `groups::alu_units::is_trans` meets its contract, variant by variant. Assumes nothing.
 use borrow.Author.Needs.{needs}
-use mathlib.Core.Path.{_≡_, sym, ap}
+use mathlib.Core.Path.{sym, ap}
 use Rattle.groups.specs.Group.{isTrans}
 use Rattle.groups.proofs.alu_units.is_trans.Statement.{statement}
 use Rattle.groups.proofs.alu_units.is_trans.Tie as tie

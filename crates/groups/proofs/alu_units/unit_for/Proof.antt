@@ -1,7 +1,7 @@
 -- `groups::alu_units::unit_for` meets its contract. Assumes nothing.
-use mathlib.Core.Path.{_≡_, sym, _∙_}
-use mathlib.Core.Bool.{Bool, _&&_, _||_}
-use Rattle.groups.specs.Group.{unitFor, isTrans, isAny, isTaken}
+use mathlib.Core.Path.{sym, _∙_}
+use mathlib.Core.Bool.{_&&_, _||_}
+use Rattle.groups.specs.Group.{unitFor}
 use Rattle.groups.proofs.alu_units.unit_for.Statement.{statement}
 use Rattle.groups.proofs.alu_units.unit_for.Tie as tie
 

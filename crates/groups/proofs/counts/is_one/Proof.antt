@@ -1,6 +1,6 @@
 -- `groups::counts::is_one` meets its contract, variant by variant. Assumes nothing.
 use borrow.Author.Needs.{needs}
-use mathlib.Core.Path.{_≡_, sym, ap}
+use mathlib.Core.Path.{sym, ap}
 use Rattle.groups.specs.Seen.{isOne}
 use Rattle.groups.proofs.counts.is_one.Statement.{statement}
 use Rattle.groups.proofs.counts.is_one.Tie as tie

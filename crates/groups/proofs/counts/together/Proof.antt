@@ -1,6 +1,6 @@
 -- `groups::counts::together` meets its contract, variant by variant. Assumes nothing.
 use borrow.Author.Needs.{needs}
-use mathlib.Core.Path.{_≡_, sym, ap}
+use mathlib.Core.Path.{sym, ap}
 use Rattle.groups.specs.Seen.{together}
 use Rattle.groups.proofs.OfSeen.{with-one}
 use Rattle.groups.proofs.counts.together.Statement.{statement}
