@@ -1,5 +1,5 @@
 -- `units::slots_left` meets its contract: from slot n on there is none. Assumes nothing.
-use mathlib.Core.Path.{ap}
+use mathlib.Core.Path.{refl, ap}
 use native.Mathlib.Omega.{arith}
 use borrow.Author.Needs.{needs}
 use Rattle.units.specs.Units.{slots}
@@ -10,7 +10,7 @@ sub-t5 : tie.Need-sub-t5
 sub-t5 c = search needs
 
 returns : tie.Need-returns
-returns c = search needs
+returns c = refl
 
 returns-2 : tie.Need-returns-2
 returns-2 c = ap slots (omega arith)
