@@ -5,7 +5,7 @@ use std::path::Path;
 fn main() {
     let root = Path::new(env!("CARGO_MANIFEST_DIR")).join("..");
     let folder = root.join("target").join("staticlib");
-    for library in ["exports", "values", "bench_clause"] {
+    for library in ["judge_for_c", "codec_for_c", "bench_clause"] {
         let archive = folder.join(format!("lib{library}.a"));
         println!("cargo:rerun-if-changed={}", archive.display());
         if !archive.is_file() {

@@ -1,6 +1,6 @@
-/* Functions of the proved judge and codec, for C and C++ on x86-64. `rt staticlib exports` writes target/staticlib/libexports.a, which has
- * the judge, and `rt staticlib values` libvalues.a beside it, which has the codec; link what you call. Nothing is allocated, and any
- * arguments get an answer.
+/* Functions of the proved judge and codec, for C and C++ on x86-64. `rt staticlib judge_for_c` writes
+ * target/staticlib/libjudge_for_c.a, which has the judge, and `rt staticlib codec_for_c` libcodec_for_c.a beside it, which has the codec;
+ * link what you call. Nothing is allocated, and any arguments get an answer.
  *
  * What is proved holds of a caller who keeps this: each pointer is valid for as many elements as the length behind it says (it may be
  * anything where the length is 0); what a function writes, the codec's arguments that are not const, does not overlap the rest; and nobody

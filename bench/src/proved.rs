@@ -1,4 +1,4 @@
-//! The proved functions, from the archives that `rt staticlib` makes: the judge (exports), the codec (values), and rules 10 to 15 on one
+//! The proved functions, from the archives that `rt staticlib` makes: the judge (judge_for_c), the codec (codec_for_c), and rules 10 to 15 on one
 //! clause, which is in an archive for these comparisons alone (bench_clause).
 
 use crate::plain::Kind;

@@ -1,2 +1,3 @@
 -- The laws that proofs cite in the crates above.
 pub mod OfDecimal
+pub mod OfFeeds

@@ -8,3 +8,7 @@ use mathlib.Core.List.{List, [], _∷_}
 abbrev pub ascii : String → List ℕ
 ascii []ᵗ = []
 ascii (c ∷ᵗ t) = code c ∷ ascii t
+
+-- the byte that ends a line
+abbrev pub lineFeed : ℕ
+lineFeed = code "\n"

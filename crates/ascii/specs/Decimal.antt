@@ -1,9 +1,12 @@
--- A number in decimal, as bytes.
-use Prim.Native.Nat.{ℕ, zero, suc, _+_, _/_, _%_}
+-- Numbers in decimal, as bytes: the digits of a number, and the number that digits stand for.
+use Prim.Native.Nat.{ℕ, zero, suc, _+_, _-_, _*_, _/_, _%_, _^_}
 use Prim.Native.Char.{code}
-use mathlib.Core.Bool.{true, false}
+use mathlib.Core.Bool.{Bool, true, false, _&&_}
 use mathlib.Core.List.{List, [], _∷_, _++_}
-use lib.Dec.{ltb}
+use lib.Dec.{leb, ltb}
+use lib.ListN.{length}
+
+-- ---- the digits of a number
 
 -- the byte of a digit
 abbrev pub digitOf : ℕ → ℕ
@@ -17,3 +20,17 @@ decimalWithin (suc most) n = elim (ltb n 10) [ true ↦ digitOf n ∷ [] | false
 
 unfoldable pub decimal : ℕ → List ℕ
 decimal n = decimalWithin (suc n) n
+
+-- ---- the number that digits stand for
+
+abbrev pub isDigit : ℕ → Bool
+isDigit b = leb (code "0") b && leb b (code "9")
+
+unfoldable pub allDigits : List ℕ → Bool
+allDigits [] = true
+allDigits (b ∷ t) = isDigit b && allDigits t
+
+-- each counts ten to the power of the digits behind it
+unfoldable pub digitsValue : List ℕ → ℕ
+digitsValue [] = 0
+digitsValue (b ∷ t) = (b - code "0") * 10 ^ length t + digitsValue t

@@ -1,3 +1,4 @@
 -- The root of what definitions cite.
 pub mod Ascii
 pub mod Decimal
+pub mod Code

@@ -2,20 +2,14 @@
 use mathlib.Core.Path.{_≡_, refl}
 use mathlib.Core.Bool.{true, false}
 use mathlib.Core.List.{List, [], _∷_, map}
-use Rattle.bits.specs.Fields.{fieldOf, placeOf, withField, pack, within, Field, bits, widthOf, fieldsOf, fillsWord}
+use Rattle.bits.specs.declared.Bits.{Bits}
+use Rattle.bits.specs.Fields.{fieldOf, bits, bit, widthOf}
+use Rattle.bits.specs.Tables.{placeOf, join, within, fieldsOf, fillsWord}
+use Rattle.bits.specs.Code.{withField}
 
 -- its high word as document 01 lays it out: mode 1, two line addresses, COUNT, ALT_CONST, number, WHOLE_QUAD_MODE, BARRIER
-openerHigh : List Field
-openerHigh =
-    bits "KCACHE_MODE1" 0 2
-    ∷ bits "KCACHE_ADDR0" 2 8
-    ∷ bits "KCACHE_ADDR1" 10 8
-    ∷ bits "COUNT" 18 7
-    ∷ bits "ALT_CONST" 25 1
-    ∷ bits "CF_INST" 26 4
-    ∷ bits "WHOLE_QUAD_MODE" 30 1
-    ∷ bits "BARRIER" 31 1
-    ∷ []
+openerHigh : List Bits
+openerHigh = bits 1 0 ∷ bits 9 2 ∷ bits 17 10 ∷ bits 24 18 ∷ bit 25 ∷ bits 29 26 ∷ bit 30 ∷ bit 31 ∷ []
 
 -- the table takes each bit once
 filled : fillsWord 0 openerHigh ≡ true
@@ -27,7 +21,7 @@ values : fieldsOf openerHigh 0xa000_0000 ≡ 0 ∷ 0 ∷ 0 ∷ 0 ∷ 0 ∷ 8 ∷
 unfolding openerHigh
 values = refl
 
-packed : pack 0 (map widthOf openerHigh) (0 ∷ 0 ∷ 0 ∷ 0 ∷ 0 ∷ 8 ∷ 0 ∷ 1 ∷ []) ≡ 0xa000_0000
+packed : join 0 (map widthOf openerHigh) (0 ∷ 0 ∷ 0 ∷ 0 ∷ 0 ∷ 8 ∷ 0 ∷ 1 ∷ []) ≡ 0xa000_0000
 unfolding openerHigh
 packed = refl
 

@@ -1,4 +1,4 @@
 -- The laws that proofs cite, here and in the crates above.
-pub mod OfRows
+pub mod OfTables
 pub mod OfField
 pub mod Examples

@@ -7,7 +7,8 @@ use native.Mathlib.Omega.{arith}
 use lib.Bits.{bitOr, or-step, or-zero-r, or-block}
 use lib.Pow.{pow-pos, pow-add, pow-mono, shl-exact, shr-lt, shr-shr, split, high, low, field, mod-pow-add, mod-mod-pow}
 use lib.Arith.{digits-lt}
-use Rattle.bits.specs.Fields.{fieldOf, withField}
+use Rattle.bits.specs.Fields.{fieldOf}
+use Rattle.bits.specs.Code.{withField}
 
 -- the sum behind `withField`, before it is cut to 32 bits
 abbrev pub spliced : ℕ → ℕ → ℕ → ℕ → ℕ

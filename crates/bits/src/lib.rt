@@ -1,9 +1,50 @@
 // Fields of a 32-bit word: the one place where shifts and masks are written and proved.
 //
-// Every function is defined at every offset and width; specs/Fields.antt says what lies behind bit 31. At an offset and a width
-// that are literals a call compiles to the shift and the mask alone (docs/MACHINE-CODE.md).
+// Every function is defined at every offset and width; its definition says what lies behind bit 31. At an offset and a width that are
+// literals a call compiles to the shift and the mask alone (docs/MACHINE-CODE.md).
 ghost use mathlib.Core.Path.{_≡_};
-ghost use Rattle.bits.specs.Fields.{fieldOf, placeOf, withField};
+ghost use Prim.Native.Nat.{_^_};
+ghost use lib.Dec.{ltb};
+ghost use Rattle.bits.specs.Fields.{fieldOf, widthOf, valueIn};
+ghost use Rattle.bits.specs.Tables.{placeOf};
+ghost use Rattle.bits.specs.Code.{withField};
+
+// A field of a word, from its highest bit to its lowest, as the papers write 28:26.
+pub struct Bits(pub u32, pub u32);
+
+// How many bits a field has; a word has 32.
+fn width_of(f: Bits) -> u32
+    ensures { λ r. ⌜ r ≡ widthOf f ⌝ }
+{
+    if f.0 < f.1 {
+        return 0;
+    }
+    if f.0 - f.1 >= 31 {
+        return 32;
+    }
+    f.0 - f.1 + 1
+}
+
+// The value of a field in a word.
+pub fn read(word: u32, f: Bits) -> u32
+    ensures { λ r. ⌜ r ≡ valueIn word f ⌝ }
+{
+    field(word, f.1, width_of(f))
+}
+
+// A value in its field's place, cut to the field's width.
+pub fn put(value: u32, f: Bits) -> u32
+    ensures { λ r. ⌜ r ≡ placeOf value (f .1) (widthOf f) ⌝ }
+{
+    place(value, f.1, width_of(f))
+}
+
+// Whether a value is within a field's width.
+pub fn fits(value: u32, f: Bits) -> bool
+    ensures { λ r. ⌜ r ≡ ltb value (2 ^ widthOf f) ⌝ }
+{
+    field(value, 0, width_of(f)) == value
+}
 
 // The `width` bits of `word` from bit `offset` on.
 pub fn field(word: u32, offset: u32, width: u32) -> u32

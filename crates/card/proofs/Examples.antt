@@ -5,7 +5,8 @@ use Prim.Native.Nat.{ℕ}
 use Prim.Native.String.{String}
 use lib.ListN.{take}
 use Rattle.card.specs.Text.{text, firstLine, behindFirst, behind, lineOf, linesLength, beginsWith, sameAs, valueOf, valueAt, wordIn, allDigits, isDecimal, digitsValue, numberOf, numberIn}
-use Rattle.card.specs.Card.{cardWith, cardOf, testOf}
+use Rattle.card.specs.Card.{cardWith, cardOf}
+use Rattle.card.specs.Made.{testOf}
 use Rattle.ascii.specs.Decimal.{decimalWithin, decimal}
 use Rattle.card.specs.Written.{written}
 use Rattle.card.specs.declared.Kind.the-variants.{Pixel, Vertex, Geometry}

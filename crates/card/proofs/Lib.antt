@@ -1,5 +1,5 @@
 -- The laws that proofs cite, here and in the crates above.
-pub mod OfTests
+pub mod OfFound
 pub mod OfLines
 pub mod OfKeys
 pub mod OfNumbers
@@ -7,4 +7,5 @@ pub mod OfRows
 pub mod OfCard
 pub mod OfDecimals
 pub mod OfWritten
+pub mod OfCut
 pub mod Examples

@@ -1,6 +1,6 @@
 -- Laws of the card: what a whole one says of the bytes, and that it is in range. Assumes nothing.
 use mathlib.Core.Path.{_≡_, refl, ap, sym, _∙_, subst}
-use mathlib.Core.Bool.{Bool, true, false, cond}
+use mathlib.Core.Bool.{Bool, true, false}
 use mathlib.Core.List.{List, [], _∷_, _++_}
 use Prim.Native.String.{String}
 use mathlib.Core.Option.{Option, none, some}
@@ -10,13 +10,16 @@ use native.Mathlib.Omega.{arith}
 use borrow.Author.Tests.{le-leb, leb-true}
 use lib.Dec.{leb}
 use lib.ListN.{length, drop}
-use Rattle.card.specs.Text.{text, found, behind, linesLength, valueAt, wordIn, numberOf, numberIn, from_to_}
-use Rattle.card.specs.Card.{lineSays, kinds, builds, gprsAllowed, tempsAllowed, constsAllowed, stackAllowed, quadsAllowed, judged, _>>=_, cardWith, cardOf, firstNot, testOf, Ranges}
+use Rattle.laws.proofs.OfCases.{impossible}
+use Rattle.laws.proofs.OfTests.{both, both-hold}
+use Rattle.card.specs.Text.{text, behind, linesLength, valueAt, wordIn, numberIn, from_to_}
+use Rattle.card.specs.Card.{lineSays, kinds, builds, gprsAllowed, tempsAllowed, constsAllowed, stackAllowed, quadsAllowed, judged, _>>=_, cardWith, cardOf}
+use Rattle.card.specs.Made.{firstNot, testOf, Ranges}
 use Rattle.card.specs.declared.Card.{Card}
 use Rattle.card.specs.declared.CardRead.{CardRead}
 use Rattle.card.specs.declared.CardRead.the-variants.{Whole, BadLine}
 use Rattle.card.specs.declared.CardTest.the-variants as test
-use Rattle.card.proofs.OfTests.{both, and}
+use Rattle.card.proofs.OfFound.{found-some, number-some}
 use Rattle.card.proofs.OfLines.{lines-behind, lines-within}
 use Rattle.card.proofs.OfRows.{goes-on, past-1, past-2, past-3, past-4, past-5, past-6, past-7, card-lines, tests-4, tests-5, tests-6, tests-7, tests-8, card-tests, holds-3, holds-4, holds-5, holds-6, holds-7}
 
@@ -33,9 +36,16 @@ pub record Says (s : List ℕ) (card : Card) (n : ℕ) : Type 0 where
   pub quads-line : lineSays s 7 "quads" (numberIn quadsAllowed) ≡ some (card .quads .0)
   pub taken : n ≡ linesLength 7 s
 
+-- an answer is one of its kinds
+read-apart : {card : Card} {n k : ℕ} → Whole card n ≡ BadLine k → ⊥
+read-apart e = impossible cc
+
+test-apart : {k : ℕ} → test.InRange ≡ test.BadLine k → ⊥
+test-apart e = impossible cc
+
 -- a whole card came through each line
 came : {A : Type 0} (k : ℕ) (o : Option A) (f : A → CardRead) {card : Card} {n : ℕ} → (judged k o >>= f) ≡ Whole card n → (a : A) × (o ≡ some a) × (f a ≡ Whole card n)
-came k none f h = let z : _≡_ {A = ℕ} 0 1 = cc in absurd (omega arith)
+came k none f h = absurd (read-apart (sym h))
 came k (some a) f h = (a, refl, h)
 
 pub whole-says : (s : List ℕ) (card : Card) (n : ℕ) → cardOf s ≡ Whole card n → Says s card n
@@ -81,21 +91,10 @@ whole-exactly-if s card n = (whole-says s card n, says-whole s card n)
 -- ---- in range
 
 -- a number that is read is an allowed one
-allowed-number : (v : Option (List ℕ)) (allowed : ℕ → Bool) {n : ℕ} → found v (numberIn allowed) ≡ some n → allowed n ≡ true
-unfolding numberIn
-allowed-number none allowed e = let z : _≡_ {A = ℕ} 0 1 = cc in absurd (omega arith)
-allowed-number (some t) allowed {n} e = by-number (numberOf t) e
-  where
-    by-test : (x : Bool) (m : ℕ) → allowed m ≡ x → _≡_ {A = Option ℕ} (cond x (some m) none) (some n) → allowed n ≡ true
-    by-test true m h e = let f : m ≡ n = cc in ap allowed (sym f) ∙ h
-    by-test false m h e = let z : _≡_ {A = ℕ} 0 1 = cc in absurd (omega arith)
-
-    by-number : (o : Option ℕ) → found o (λ m. cond (allowed m) (some m) none) ≡ some n → allowed n ≡ true
-    by-number none e = let z : _≡_ {A = ℕ} 0 1 = cc in absurd (omega arith)
-    by-number (some m) e = by-test (allowed m) m refl e
-
 allowed-line : (s : List ℕ) (k : ℕ) (key : String) (allowed : ℕ → Bool) {n : ℕ} → lineSays s k key (numberIn allowed) ≡ some n → allowed n ≡ true
-allowed-line s k key allowed e = allowed-number (valueAt k (text key ++ text "=") s) allowed e
+allowed-line s k key allowed e =
+    let v = found-some (valueAt k (text key ++ text "=") s) (numberIn allowed) e in
+    number-some allowed (v .0) (v .2) .1
 
 -- what is read whole passes the test of a card
 pub whole-in-range : (s : List ℕ) (card : Card) (n : ℕ) → cardOf s ≡ Whole card n → testOf card ≡ test.InRange
@@ -109,37 +108,28 @@ whole-in-range s card n h =
     ∙ holds-7 card (allowed-line s 7 "quads" quadsAllowed (w .quads-line))
 
 -- a test that all lines pass was passed by the first, and by the rest
-passed-first : (n : ℕ) (t : Bool) (ts : List (ℕ × Bool)) → firstNot ((n, t) ∷ ts) ≡ test.InRange → t ≡ true
-passed-first n true ts h = refl
-passed-first n false ts h = let z : _≡_ {A = ℕ} 0 1 = cc in absurd (omega arith)
+passed : (n : ℕ) (t : Bool) (ts : List (ℕ × Bool)) → firstNot ((n, t) ∷ ts) ≡ test.InRange → (t ≡ true) × (firstNot ts ≡ test.InRange)
+passed n true ts h = (refl, h)
+passed n false ts h = absurd (test-apart (sym h))
 
-passed-rest : (n : ℕ) (t : Bool) (ts : List (ℕ × Bool)) → firstNot ((n, t) ∷ ts) ≡ test.InRange → firstNot ts ≡ test.InRange
-passed-rest n true ts h = h
-passed-rest n false ts h = let z : _≡_ {A = ℕ} 0 1 = cc in absurd (omega arith)
-
-ranged : (low high n : ℕ) → (from low to high) n ≡ true → (low ≤ n) × (n ≤ high)
+pub ranged : (low high n : ℕ) → (from low to high) n ≡ true → (low ≤ n) × (n ≤ high)
 ranged low high n h =
     let w = both (leb low n) (leb n high) h in
     (leb-true low n (w .0), leb-true n high (w .1))
 
 in-range : (low high n : ℕ) → low ≤ n → n ≤ high → (from low to high) n ≡ true
-in-range low high n l h = and (leb low n) (leb n high) (le-leb low n l) (le-leb n high h)
+in-range low high n l h = both-hold (leb low n) (leb n high) (le-leb low n l) (le-leb n high h)
 
 -- each line's test, of a card that passes
 pub range-tests : (card : Card) → testOf card ≡ test.InRange
     → (gprsAllowed (card .gprs) ≡ true) × (tempsAllowed (card .gprs) (card .temps) ≡ true) × (constsAllowed (card .consts) ≡ true) × (stackAllowed (card .stack) ≡ true) × (quadsAllowed (card .quads .0) ≡ true)
 range-tests card h =
-    let t3 = sym (card-tests card) ∙ h in
-    let t4 = passed-rest 3 (gprsAllowed (card .gprs)) (tests-4 card) t3 in
-    let t5 = passed-rest 4 (tempsAllowed (card .gprs) (card .temps)) (tests-5 card) t4 in
-    let t6 = passed-rest 5 (constsAllowed (card .consts)) (tests-6 card) t5 in
-    let t7 = passed-rest 6 (stackAllowed (card .stack)) (tests-7 card) t6 in (
-      passed-first 3 (gprsAllowed (card .gprs)) (tests-4 card) t3,
-      passed-first 4 (tempsAllowed (card .gprs) (card .temps)) (tests-5 card) t4,
-      passed-first 5 (constsAllowed (card .consts)) (tests-6 card) t5,
-      passed-first 6 (stackAllowed (card .stack)) (tests-7 card) t6,
-      passed-first 7 (quadsAllowed (card .quads .0)) (tests-8 card) t7,
-    )
+    let t3 = passed 3 (gprsAllowed (card .gprs)) (tests-4 card) (sym (card-tests card) ∙ h) in
+    let t4 = passed 4 (tempsAllowed (card .gprs) (card .temps)) (tests-5 card) (t3 .1) in
+    let t5 = passed 5 (constsAllowed (card .consts)) (tests-6 card) (t4 .1) in
+    let t6 = passed 6 (stackAllowed (card .stack)) (tests-7 card) (t5 .1) in
+    let t7 = passed 7 (quadsAllowed (card .quads .0)) (tests-8 card) (t6 .1) in
+    (t3 .0, t4 .0, t5 .0, t6 .0, t7 .0)
 
 pub range-figures : (card : Card) → testOf card ≡ test.InRange → Ranges card
 range-figures card h =
@@ -163,7 +153,7 @@ figures-range card w =
     card-tests card
     ∙ holds-3 card (in-range 1 128 (card .gprs) (w .gprs-least) (w .gprs-most))
     ∙ holds-4 card
-    (and ((from 0 to 4) (card .temps)) (leb (card .gprs + card .temps) 128) (in-range 0 4 (card .temps) (omega arith) (w .temps-most)) (le-leb (card .gprs + card .temps) 128 (w .together-most)))
+    (both-hold ((from 0 to 4) (card .temps)) (leb (card .gprs + card .temps) 128) (in-range 0 4 (card .temps) (omega arith) (w .temps-most)) (le-leb (card .gprs + card .temps) 128 (w .together-most)))
     ∙ holds-5 card (in-range 0 256 (card .consts) (omega arith) (w .consts-most))
     ∙ holds-6 card (in-range 0 32 (card .stack) (omega arith) (w .stack-most))
     ∙ holds-7 card (in-range 1 8192 (card .quads .0) (w .quads-least) (w .quads-most))
@@ -200,7 +190,7 @@ bad-line s n h =
     (λ temps. blamed 5 (lineSays s 5 "consts" (numberIn constsAllowed)) _ 1 7 n (omega arith) (omega arith)
     (λ consts. blamed 6 (lineSays s 6 "stack" (numberIn stackAllowed)) _ 1 7 n (omega arith) (omega arith)
     (λ stack. blamed 7 (lineSays s 7 "quads" (numberIn quadsAllowed)) _ 1 7 n (omega arith) (omega arith)
-    (λ quads e. let z : _≡_ {A = ℕ} 0 1 = cc in absurd (omega arith))))))))
+    (λ quads e. absurd (read-apart e))))))))
     (sym (card-lines s) ∙ h)
 
 blamed-test : (k : ℕ) (t : Bool) (ts : List (ℕ × Bool)) (low high n : ℕ) → low ≤ k → k ≤ high
@@ -216,5 +206,5 @@ bad-figure card n h =
     (blamed-test 5 (constsAllowed (card .consts)) (tests-6 card) 3 7 n (omega arith) (omega arith)
     (blamed-test 6 (stackAllowed (card .stack)) (tests-7 card) 3 7 n (omega arith) (omega arith)
     (blamed-test 7 (quadsAllowed (card .quads .0)) [] 3 7 n (omega arith) (omega arith)
-    (λ e. let z : _≡_ {A = ℕ} 0 1 = cc in absurd (omega arith))))))
+    (λ e. absurd (test-apart e))))))
     (sym (card-tests card) ∙ h)

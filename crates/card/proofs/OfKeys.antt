@@ -1,9 +1,9 @@
 -- Keys and words: compared one byte after the other where they stand, and what the line is that begins with them. Assumes nothing.
 use mathlib.Core.Path.{_≡_, refl, ap, ap₂, sym, _∙_}
-use mathlib.Core.Bool.{Bool, true, false, cond, not, _&&_, and-false}
+use mathlib.Core.Bool.{Bool, true, false, cond, not, _&&_, and-false, false≢true}
 use mathlib.Core.List.{List, [], _∷_, _++_, append-assoc}
 use mathlib.Core.Option.{Option, none, some, Option·map}
-use Prim.Native.Nat.{ℕ, suc, _+_, _≤_, _<_}
+use Prim.Native.Nat.{ℕ, _+_, _≤_, _<_}
 use Prim.Native.String.{String}
 use native.Mathlib.Numerals.{add-one}
 use native.Mathlib.Omega.{arith}
@@ -11,9 +11,10 @@ use borrow.Author.Tests.{eq-eqb, eqb-true, ne-eqb, eqb-false, not-true}
 use lib.Dec.{eqb}
 use lib.ListN.{length, getD, drop, drop-of-length-le, length-append, length-drop}
 use lib.Seq.{drop-cons, drop-drop}
+use Rattle.laws.proofs.OfTests.{both, by-test}
 use Rattle.card.specs.Text.{text, found, lineFeed, firstLine, behindFirst, behind, linesLength, beginsWith, sameAs, valueOf, valueAt, lineOf, wordIn}
-use Rattle.card.specs.Answers.{nextLine, feedless}
-use Rattle.card.proofs.OfTests.{both, split}
+use Rattle.ascii.specs.Code.{feedless}
+use Rattle.card.specs.Code.{nextLine}
 use Rattle.card.proofs.OfLines.{behind-within}
 
 never : (x y : Bool) → false ≡ y → false ≡ (x && y)
@@ -46,21 +47,27 @@ too-short (k ∷ ks) (b ∷ t) h = never (eqb b k) (beginsWith ks t) (too-short 
 begins-length : (key t : List ℕ) → beginsWith key t ≡ true → length key ≤ length t
 unfolding beginsWith
 begins-length [] t e = omega arith
-begins-length (k ∷ ks) [] e = let z : _≡_ {A = ℕ} 0 1 = cc in absurd (omega arith)
-begins-length (k ∷ ks) (b ∷ t) e = by (eqb b k) e (begins-length ks t)
-  where
-    by : (x : Bool) → (x && beginsWith ks t) ≡ true → (beginsWith ks t ≡ true → length ks ≤ length t) → suc (length ks) ≤ suc (length t)
-    by true e h = let l = h e in omega arith
-    by false e h = let z : _≡_ {A = ℕ} 0 1 = cc in absurd (omega arith)
+begins-length (k ∷ ks) [] e = absurd (false≢true e)
+begins-length (k ∷ ks) (b ∷ t) e = let l = begins-length ks t (both (eqb b k) (beginsWith ks t) e .1) in omega arith
 
 -- a text that begins with the key is the key and a rest
 pub begins-text : (key t : List ℕ) → beginsWith key t ≡ true → t ≡ key ++ drop (length key) t
 unfolding beginsWith
 begins-text [] t h = refl
-begins-text (k ∷ key) [] h = let z : _≡_ {A = ℕ} 0 1 = cc in absurd (omega arith)
+begins-text (k ∷ key) [] h = absurd (false≢true h)
 begins-text (k ∷ key) (b ∷ t) h =
     let w = both (eqb b k) (beginsWith key t) h in
     ap₂ (λ (x : ℕ) (xs : List ℕ). x ∷ xs) (eqb-true b k (w .0)) (begins-text key t (w .1))
+
+-- two texts that are the same
+pub same-text : (a b : List ℕ) → sameAs a b ≡ true → a ≡ b
+unfolding sameAs
+same-text [] [] h = refl
+same-text [] (y ∷ ys) h = absurd (false≢true h)
+same-text (x ∷ xs) [] h = absurd (false≢true h)
+same-text (x ∷ xs) (y ∷ ys) h =
+    let w = both (eqb x y) (sameAs xs ys) h in
+    ap₂ (λ (a : ℕ) (l : List ℕ). a ∷ l) (eqb-true x y (w .0)) (same-text xs ys (w .1))
 
 -- ---- bytes without a line feed, at the front of a line
 
@@ -89,7 +96,7 @@ key-line [] t f = by (firstLine t)
 key-line (k ∷ key) [] f = refl
 key-line (k ∷ key) (b ∷ t) f =
     let w = both (not (eqb k lineFeed)) (feedless key) f in
-    split (eqb b lineFeed) (λ e. ended (feed-other b k (w .0) e) e) (λ e. split (eqb b k) (more (key-line key t (w .1)) e) (other e))
+    by-test (eqb b lineFeed) (λ e. ended (feed-other b k (w .0) e) e) (λ e. by-test (eqb b k) (more (key-line key t (w .1)) e) (other e))
   where
     Goal : Type 0
     Goal = found (cond (eqb b lineFeed) (some []) (Option·map (λ l. b ∷ l) (firstLine t))) (valueOf (k ∷ key))
@@ -130,7 +137,7 @@ word-line [] (b ∷ t) f = by (eqb b lineFeed) (firstLine t)
 word-line (k ∷ w) [] f = refl
 word-line (k ∷ w) (b ∷ t) f =
     let v = both (not (eqb k lineFeed)) (feedless w) f in
-    split (eqb b lineFeed) (λ e. ended (feed-other b k (v .0) e) e) (more (word-line w t (v .1)))
+    by-test (eqb b lineFeed) (λ e. ended (feed-other b k (v .0) e) e) (more (word-line w t (v .1)))
   where
     Goal : Type 0
     Goal = (eqb b k && beginsWith (w ++ (lineFeed ∷ [])) t) ≡ isLine (k ∷ w) (cond (eqb b lineFeed) (some []) (Option·map (λ l. b ∷ l) (firstLine t)))

@@ -10,17 +10,14 @@ use native.Mathlib.Omega.{arith}
 use borrow.Author.Tests.{eq-eqb, ne-eqb, eqb-true, eqb-false}
 use lib.Dec.{eqb}
 use lib.ListN.{length, getD, take, drop, length-drop}
-use lib.Seq.{drop-cons, drop-drop, take-all, length-take-le, getD-take}
+use lib.Seq.{drop-cons, drop-drop, length-take-le, getD-take}
+use Rattle.laws.proofs.OfTests.{by-test}
 use Rattle.card.specs.Text.{found, lineFeed, firstLine, behindFirst, behind, linesLength, lineOf, valueOf, valueAt}
-use Rattle.card.specs.Answers.{nextLine}
-use Rattle.card.proofs.OfTests.{split}
+use Rattle.card.specs.Code.{nextLine}
 
 -- the bytes from a place to the end, as a part of them that the code takes
 abbrev pub part : List ℕ → ℕ → List ℕ
 part l n = take (length l - n) (drop n l)
-
-pub rest : (n : ℕ) (l : List ℕ) → part l n ≡ drop n l
-rest n l = take-all (length l - n) (drop n l) (omega (arith, length-drop n l))
 
 -- ---- the end of the first line
 
@@ -82,7 +79,7 @@ first-some (b ∷ t) e = by (eqb b lineFeed) e (first-some t)
 -- what refuses the line refuses it too where no line feed ends it
 pub line-refused : {A : Type 0} (t : List ℕ) (f : List ℕ → Option A) → f (lineIn t) ≡ none → found (firstLine t) f ≡ none
 line-refused t f e =
-    split (eqb (lineEnd t) (length t))
+    by-test (eqb (lineEnd t) (length t))
     (λ h. ap (λ o. found o f) (first-none t (eqb-true (lineEnd t) (length t) h)))
     (λ h. ap (λ o. found o f) (first-some t (eqb-false (lineEnd t) (length t) h)) ∙ e)
 

@@ -11,10 +11,11 @@ use borrow.Author.Tests.{le-leb, lt-leb}
 use lib.Dec.{eqb}
 use lib.ListN.{length, getD, take, drop, drop-of-length-le}
 use lib.Seq.{drop-cons}
+use Rattle.laws.proofs.OfLists.{to-the-end}
 use Rattle.card.specs.Text.{found, lineFeed, firstLine, linesLength, isDigit, allDigits, isDecimal, digitsValue, numberOf, numberIn, from_to_}
-use Rattle.card.specs.Answers.{nextLine, wellFormed, figureRead}
+use Rattle.card.specs.Code.{nextLine, wellFormed, figureRead}
 use Rattle.card.specs.declared.text.Figure.the-variants.{Is, Wrong}
-use Rattle.card.proofs.OfLines.{part, rest, Passed, passed-none, passed-more, lineIn, line-refused, line-missing, byte-inside, byte-same, feed-line, feed-length, feed-found, feed-next}
+use Rattle.card.proofs.OfLines.{part, Passed, passed-none, passed-more, lineIn, line-refused, line-missing, byte-inside, byte-same, feed-line, feed-length, feed-found, feed-next}
 
 -- ---- what digits are
 
@@ -186,7 +187,7 @@ module _ (s : List ℕ) (start low high : ℕ) where
   pub wrong : found (firstLine (part s start)) (numberIn (from low to high)) ≡ none
       → Wrong ≡ figureRead (found (firstLine (drop start s)) (numberIn (from low to high))) (nextLine s start)
   wrong e =
-      let f = ap (λ t. found (firstLine t) (numberIn (from low to high))) (sym (rest start s)) ∙ e in
+      let f = ap (λ t. found (firstLine t) (numberIn (from low to high))) (sym (to-the-end start s)) ∙ e in
       sym (ap (λ o. figureRead o (nextLine s start)) f)
 
   pub right : {n m : ℕ} → found (firstLine (part s start)) (numberIn (from low to high)) ≡ some n → m ≡ start + linesLength 1 (part s start)
@@ -194,4 +195,4 @@ module _ (s : List ℕ) (start low high : ℕ) where
   right {n} {m} e l =
       ap (λ k. Is n k) l
       ∙ sym (ap (λ o. figureRead o (start + linesLength 1 (part s start))) e)
-      ∙ ap (λ t. figureRead (found (firstLine t) (numberIn (from low to high))) (start + linesLength 1 t)) (rest start s)
+      ∙ ap (λ t. figureRead (found (firstLine t) (numberIn (from low to high))) (start + linesLength 1 t)) (to-the-end start s)

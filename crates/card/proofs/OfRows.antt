@@ -5,17 +5,17 @@ use mathlib.Core.List.{List, [], _∷_}
 use mathlib.Core.Option.{Option, none, some}
 use Prim.Native.Nat.{ℕ, suc, _+_, _≤_}
 use Prim.Native.String.{String}
-use native.Mathlib.Omega.{arith}
 use lib.ListN.{length, drop}
+use Rattle.laws.proofs.OfCases.{impossible}
+use Rattle.laws.proofs.OfLists.{to-the-end}
 use Rattle.card.specs.Text.{text, found, firstLine, linesLength, beginsWith, valueAt, wordIn, numberOf, numberIn}
-use Rattle.card.specs.Card.{kinds, builds, gprsAllowed, tempsAllowed, constsAllowed, stackAllowed, quadsAllowed, judged, line, _>>=_, cardWith, cardOf, firstNot, testOf}
-use Rattle.card.specs.Answers.{nextLine, feedless, placeRead, kindRead, buildRead, figureRead}
-use Rattle.card.specs.declared.Kind.{Kind}
+use Rattle.card.specs.Card.{kinds, builds, gprsAllowed, tempsAllowed, constsAllowed, stackAllowed, quadsAllowed, judged, line, _>>=_, cardWith, cardOf}
+use Rattle.card.specs.Made.{firstNot, testOf}
+use Rattle.ascii.specs.Code.{feedless}
+use Rattle.card.specs.Code.{nextLine, placeRead, answered, figureRead}
 use Rattle.card.specs.declared.Build.{Build}
-use Rattle.card.specs.declared.rows.KindRead.{KindRead}
-use Rattle.card.specs.declared.rows.KindRead.the-variants as kind
-use Rattle.card.specs.declared.rows.BuildRead.{BuildRead}
-use Rattle.card.specs.declared.rows.BuildRead.the-variants as build
+use Rattle.card.specs.declared.lines.KindRead.the-variants as kind
+use Rattle.card.specs.declared.lines.BuildRead.the-variants as build
 use Rattle.card.specs.declared.text.Place.{Place}
 use Rattle.card.specs.declared.text.Place.the-variants as place
 use Rattle.card.specs.declared.text.Figure.{Figure}
@@ -24,64 +24,54 @@ use Rattle.card.specs.declared.Card.{Card}
 use Rattle.card.specs.declared.CardRead.{CardRead}
 use Rattle.card.specs.declared.CardRead.the-variants.{Whole, BadLine}
 use Rattle.card.specs.declared.CardTest.the-variants as test
-use Rattle.card.proofs.OfLines.{part, rest, start-within, start-value, start-next}
+use Rattle.card.proofs.OfLines.{part, start-within, start-value, start-next}
 use Rattle.card.proofs.OfKeys.{no-value, value-within, value-line, value-next, ended, word-here, word-later, word-next}
 
 -- ---- the code's answers, as what they stand for
 
 pub place-read : (s key : List ℕ) (start n : ℕ) {r x : Bool} → r ≡ beginsWith key (part s start) → r ≡ x
     → placeRead x n ≡ placeRead (beginsWith key (drop start s)) n
-place-read s key start n p q = ap (λ b. placeRead b n) (sym q ∙ p ∙ ap (beginsWith key) (rest start s))
+place-read s key start n p q = ap (λ b. placeRead b n) (sym q ∙ p ∙ ap (beginsWith key) (to-the-end start s))
+
+place-apart : {n : ℕ} → place.At n ≡ place.Wrong → ⊥
+place-apart e = impossible cc
 
 place-at : (b : Bool) {r : Place} {m n : ℕ} → r ≡ placeRead b m → r ≡ place.At n → (b ≡ true) × (n ≡ m)
 place-at true p q = (refl, cc)
-place-at false p q = let z : _≡_ {A = ℕ} 0 1 = cc in absurd (omega arith)
+place-at false p q = absurd (place-apart (sym q ∙ p))
 
 place-wrong : (b : Bool) (m : ℕ) {r : Place} → r ≡ placeRead b m → r ≡ place.Wrong → b ≡ false
-place-wrong true m p q = let z : _≡_ {A = ℕ} 0 1 = cc in absurd (omega arith)
+place-wrong true m p q = absurd (place-apart (sym p ∙ q))
 place-wrong false m p q = refl
 
-pub kind-is : (o : Option Kind) {r : KindRead} {m n : ℕ} {k : Kind} → r ≡ kindRead o m → r ≡ kind.Is k n → (o ≡ some k) × (n ≡ m)
-kind-is none p q = let z : _≡_ {A = ℕ} 0 1 = cc in absurd (omega arith)
-kind-is (some j) p q = (cc, cc)
+-- an enum of two constructors, which are told apart and tell what they were made of
+pub record Told {A R : Type 0} (is : A → ℕ → R) (wrong : R) : Type 0 where
+  pub apart : (a : A) (n : ℕ) → is a n ≡ wrong → ⊥
+  pub same : (a b : A) (m n : ℕ) → is a m ≡ is b n → (a ≡ b) × (m ≡ n)
 
-pub kind-wrong : (o : Option Kind) (m : ℕ) {r : KindRead} → r ≡ kindRead o m → r ≡ kind.Wrong → o ≡ none
-kind-wrong none m p q = refl
-kind-wrong (some j) m p q = let z : _≡_ {A = ℕ} 0 1 = cc in absurd (omega arith)
+pub kinds-told : Told kind.Is kind.Wrong
+kinds-told = record { apart = λ a n e. impossible cc; same = λ a b m n e. (cc, cc) }
 
-pub kind-right : {o : Option Kind} {k : Kind} {m n : ℕ} → o ≡ some k → n ≡ m → kind.Is k n ≡ kindRead o m
-kind-right {k = k} {m = m} p q = ap (λ n. kind.Is k n) q ∙ sym (ap (λ o. kindRead o m) p)
+pub builds-told : Told build.Is build.Wrong
+builds-told = record { apart = λ a n e. impossible cc; same = λ a b m n e. (cc, cc) }
 
-pub kind-refused : {o : Option Kind} (m : ℕ) → o ≡ none → kind.Wrong ≡ kindRead o m
-kind-refused m p = sym (ap (λ o. kindRead o m) p)
+pub figures-told : Told figure.Is figure.Wrong
+figures-told = record { apart = λ a n e. impossible cc; same = λ a b m n e. (cc, cc) }
 
-pub build-is : (o : Option Build) {r : BuildRead} {m n : ℕ} {k : Build} → r ≡ buildRead o m → r ≡ build.Is k n → (o ≡ some k) × (n ≡ m)
-build-is none p q = let z : _≡_ {A = ℕ} 0 1 = cc in absurd (omega arith)
-build-is (some j) p q = (cc, cc)
+module _ {A R : Type 0} {is : A → ℕ → R} {wrong : R} (told : Told is wrong) where
+  pub answer-is : (o : Option A) {r : R} {a : A} {m n : ℕ} → r ≡ answered is wrong o m → r ≡ is a n → (o ≡ some a) × (n ≡ m)
+  answer-is none {a = a} {n = n} p q = absurd (told .apart a n (sym q ∙ p))
+  answer-is (some b) {a = a} {m = m} {n = n} p q = let w = told .same b a m n (sym p ∙ q) in (ap some (w .0), sym (w .1))
 
-pub build-wrong : (o : Option Build) (m : ℕ) {r : BuildRead} → r ≡ buildRead o m → r ≡ build.Wrong → o ≡ none
-build-wrong none m p q = refl
-build-wrong (some j) m p q = let z : _≡_ {A = ℕ} 0 1 = cc in absurd (omega arith)
+  pub answer-wrong : (o : Option A) (m : ℕ) {r : R} → r ≡ answered is wrong o m → r ≡ wrong → o ≡ none
+  answer-wrong none m p q = refl
+  answer-wrong (some b) m p q = absurd (told .apart b m (sym p ∙ q))
 
-pub build-right : {o : Option Build} {k : Build} {m n : ℕ} → o ≡ some k → n ≡ m → build.Is k n ≡ buildRead o m
-build-right {k = k} {m = m} p q = ap (λ n. build.Is k n) q ∙ sym (ap (λ o. buildRead o m) p)
+  pub answer-right : {o : Option A} {a : A} {m n : ℕ} → o ≡ some a → n ≡ m → is a n ≡ answered is wrong o m
+  answer-right {a = a} {m = m} p q = ap (is a) q ∙ sym (ap (λ o. answered is wrong o m) p)
 
-pub build-refused : {o : Option Build} (m : ℕ) → o ≡ none → build.Wrong ≡ buildRead o m
-build-refused m p = sym (ap (λ o. buildRead o m) p)
-
-pub figure-is : (o : Option ℕ) {r : Figure} {m n k : ℕ} → r ≡ figureRead o m → r ≡ figure.Is k n → (o ≡ some k) × (n ≡ m)
-figure-is none p q = let z : _≡_ {A = ℕ} 0 1 = cc in absurd (omega arith)
-figure-is (some j) p q = (cc, cc)
-
-pub figure-wrong : (o : Option ℕ) (m : ℕ) {r : Figure} → r ≡ figureRead o m → r ≡ figure.Wrong → o ≡ none
-figure-wrong none m p q = refl
-figure-wrong (some j) m p q = let z : _≡_ {A = ℕ} 0 1 = cc in absurd (omega arith)
-
-pub figure-right : {o : Option ℕ} {k : ℕ} {m n : ℕ} → o ≡ some k → n ≡ m → figure.Is k n ≡ figureRead o m
-figure-right {k = k} {m = m} p q = ap (λ n. figure.Is k n) q ∙ sym (ap (λ o. figureRead o m) p)
-
-pub figure-refused : {o : Option ℕ} (m : ℕ) → o ≡ none → figure.Wrong ≡ figureRead o m
-figure-refused m p = sym (ap (λ o. figureRead o m) p)
+  pub answer-refused : {o : Option A} (m : ℕ) → o ≡ none → wrong ≡ answered is wrong o m
+  answer-refused m p = sym (ap (λ o. answered is wrong o m) p)
 
 -- ---- a line, from where it starts
 

@@ -1,18 +1,21 @@
 -- The bytes of a whole card are exactly the text of that card, and the text of a card in range is read as the card. Assumes nothing.
-use mathlib.Core.Path.{_≡_, refl, ap, ap₂, sym, _∙_}
+use mathlib.Core.Path.{_≡_, refl, ap, sym, _∙_}
 use mathlib.Core.Bool.{Bool, true, false, cond, not}
 use mathlib.Core.List.{List, [], _∷_, _++_, append-assoc}
-use mathlib.Core.Option.{Option, none, some, Option·map}
+use mathlib.Core.Option.{Option, some, Option·map, Option·none-ne-some, Option·some-injective, map-eq-some-iff}
 use Prim.Native.Nat.{ℕ, pred}
 use Prim.Native.String.{String}
 use native.Mathlib.Omega.{arith}
-use borrow.Author.Tests.{eq-eqb, eqb-true, ne-eqb, not-true}
+use borrow.Author.Tests.{eq-eqb, eqb-true, not-true}
 use lib.Dec.{eqb}
 use lib.ListN.{length, drop, length-append}
 use lib.Seq.{drop-append-seam}
-use Rattle.card.specs.Text.{text, found, lineFeed, firstLine, behindFirst, behind, lineOf, beginsWith, sameAs, valueOf, valueAt, wordIn, isDigit, allDigits, numberOf, numberIn}
-use Rattle.card.specs.Card.{lineSays, kinds, builds, gprsAllowed, tempsAllowed, constsAllowed, stackAllowed, quadsAllowed, cardOf, testOf}
-use Rattle.card.specs.Answers.{feedless}
+use Rattle.laws.proofs.OfTests.{both, both-hold}
+use Rattle.card.specs.Text.{text, found, lineFeed, firstLine, behindFirst, behind, lineOf, beginsWith, sameAs, valueOf, valueAt, wordIn, numberIn}
+use Rattle.card.specs.Card.{lineSays, kinds, builds, gprsAllowed, tempsAllowed, constsAllowed, stackAllowed, quadsAllowed, cardOf}
+use Rattle.card.specs.Made.{testOf}
+use Rattle.ascii.specs.Code.{feedless}
+use Rattle.ascii.proofs.OfFeeds.{feedless-joined, feedless-decimal}
 use Rattle.ascii.specs.Decimal.{decimal}
 use Rattle.card.specs.Written.{kindWord, buildWord, row, written}
 use Rattle.card.specs.declared.Kind.{Kind}
@@ -22,10 +25,10 @@ use Rattle.card.specs.declared.Build.the-variants.{Production, Debug}
 use Rattle.card.specs.declared.Card.{Card}
 use Rattle.card.specs.declared.CardRead.the-variants.{Whole}
 use Rattle.card.specs.declared.CardTest.the-variants as test
-use Rattle.card.proofs.OfTests.{both, and}
+use Rattle.card.proofs.OfFound.{found-some, tested-some, number-some}
 use Rattle.card.proofs.OfLines.{lines-place}
-use Rattle.card.proofs.OfKeys.{begins-text, behind-joined}
-use Rattle.card.proofs.OfDecimals.{digit-bounds, decimal-all, decimal-read, number-text}
+use Rattle.card.proofs.OfKeys.{begins-text, same-text, behind-joined}
+use Rattle.card.proofs.OfDecimals.{decimal-read, number-text}
 use Rattle.card.proofs.OfCard.{whole-says, says-whole, range-tests, whole-behind}
 
 -- ---- a line and its line feed
@@ -44,47 +47,33 @@ behind-of l r h = behind-joined l (lineFeed ∷ r) h
 -- a text that has a first line is that line, a line feed and the rest
 line-text : (t l : List ℕ) → firstLine t ≡ some l → t ≡ l ++ (lineFeed ∷ behindFirst t)
 unfolding firstLine behindFirst
-line-text [] l h = let z : _≡_ {A = ℕ} 0 1 = cc in absurd (omega arith)
-line-text (b ∷ t) l h = by-feed (eqb b lineFeed) refl h (line-text t)
+line-text [] l h = absurd (Option·none-ne-some l h)
+line-text (b ∷ t) l h = by (eqb b lineFeed) refl h (line-text t)
   where
-    by-line : (o : Option (List ℕ)) → _≡_ {A = Option (List ℕ)} (Option·map (λ m. b ∷ m) o) (some l) → ((m : List ℕ) → o ≡ some m → t ≡ m ++ (lineFeed ∷ behindFirst t))
-        → b ∷ t ≡ l ++ (lineFeed ∷ behindFirst t)
-    by-line none h f = let z : _≡_ {A = ℕ} 0 1 = cc in absurd (omega arith)
-    by-line (some m) h f =
-        let e : b ∷ m ≡ l = cc in
-        ap (λ (u : List ℕ). b ∷ u) (f m refl) ∙ ap (λ (u : List ℕ). u ++ (lineFeed ∷ behindFirst t)) e
-
-    by-feed : (x : Bool) → eqb b lineFeed ≡ x → _≡_ {A = Option (List ℕ)} (cond x (some []) (Option·map (λ m. b ∷ m) (firstLine t))) (some l)
+    by : (x : Bool) → eqb b lineFeed ≡ x → _≡_ {A = Option (List ℕ)} (cond x (some []) (Option·map (λ m. b ∷ m) (firstLine t))) (some l)
         → ((m : List ℕ) → firstLine t ≡ some m → t ≡ m ++ (lineFeed ∷ behindFirst t)) → b ∷ t ≡ l ++ (lineFeed ∷ cond x t (behindFirst t))
-    by-feed true e h f =
-        let k : [] ≡ l = cc in
-        ap (λ (n : ℕ). n ∷ t) (eqb-true b lineFeed e) ∙ ap (λ (u : List ℕ). u ++ (lineFeed ∷ t)) k
-    by-feed false e h f = by-line (firstLine t) h f
+    by true e h f =
+        ap (λ (n : ℕ). n ∷ t) (eqb-true b lineFeed e) ∙ ap (λ (u : List ℕ). u ++ (lineFeed ∷ t)) (Option·some-injective [] l h)
+    by false e h f =
+        let m = map-eq-some-iff (λ (m : List ℕ). b ∷ m) (firstLine t) .0 h in
+        ap (λ (u : List ℕ). b ∷ u) (f (m .0) (m .1)) ∙ ap (λ (u : List ℕ). u ++ (lineFeed ∷ behindFirst t)) (m .2)
 
 -- ---- a key and its value
 
 begins-own : (key v : List ℕ) → beginsWith key (key ++ v) ≡ true
 unfolding beginsWith
 begins-own [] v = refl
-begins-own (k ∷ key) v = and (eqb k k) (beginsWith key (key ++ v)) (eq-eqb k k refl) (begins-own key v)
+begins-own (k ∷ key) v = both-hold (eqb k k) (beginsWith key (key ++ v)) (eq-eqb k k refl) (begins-own key v)
 
 value-text : (key l v : List ℕ) → valueOf key l ≡ some v → l ≡ key ++ v
 unfolding valueOf
-value-text key l v h = by (beginsWith key l) refl h
-  where
-    by : (x : Bool) → beginsWith key l ≡ x → _≡_ {A = Option (List ℕ)} (cond x (some (drop (length key) l)) none) (some v) → l ≡ key ++ v
-    by true e h = let f : drop (length key) l ≡ v = cc in begins-text key l e ∙ ap (λ (u : List ℕ). key ++ u) f
-    by false e h = let z : _≡_ {A = ℕ} 0 1 = cc in absurd (omega arith)
+value-text key l v h =
+    let w = tested-some (beginsWith key l) h in
+    begins-text key l (w .0) ∙ ap (λ (u : List ℕ). key ++ u) (w .1)
 
 value-own : (key v : List ℕ) → valueOf key (key ++ v) ≡ some v
 unfolding valueOf
 value-own key v = rw (begins-own key v, drop-append-seam key v)
-
-feedless-join : (a b : List ℕ) → feedless a ≡ true → feedless b ≡ true → feedless (a ++ b) ≡ true
-feedless-join [] b p q = q
-feedless-join (x ∷ a) b p q =
-    let w = both (not (eqb x lineFeed)) (feedless a) p in
-    and (not (eqb x lineFeed)) (feedless (a ++ b)) (w .0) (feedless-join a b (w .1) q)
 
 -- ---- one row
 
@@ -92,12 +81,9 @@ module _ (s : List ℕ) (n k : ℕ) (at : pred n ≡ k) (key v : List ℕ) where
   -- a row that is read is key, value and line feed, and then what stands behind it
   row-text : valueAt n key s ≡ some v → behind k s ≡ key ++ v ++ (lineFeed ∷ behindFirst (behind k s))
   unfolding valueAt lineOf
-  row-text h = by (firstLine (behind k s)) refl (ap (λ (i : ℕ). found (firstLine (behind i s)) (valueOf key)) (sym at) ∙ h)
-    where
-      by : (o : Option (List ℕ)) → firstLine (behind k s) ≡ o → found o (valueOf key) ≡ some v → behind k s ≡ key ++ v ++ (lineFeed ∷ behindFirst (behind k s))
-      by none e h = let z : _≡_ {A = ℕ} 0 1 = cc in absurd (omega arith)
-      by (some l) e h =
-          line-text (behind k s) l e ∙ ap (λ (u : List ℕ). u ++ (lineFeed ∷ behindFirst (behind k s))) (value-text key l v h)
+  row-text h =
+      let w = found-some (firstLine (behind k s)) (valueOf key) (ap (λ (i : ℕ). found (firstLine (behind i s)) (valueOf key)) (sym at) ∙ h) in
+      line-text (behind k s) (w .0) (w .1) ∙ ap (λ (u : List ℕ). u ++ (lineFeed ∷ behindFirst (behind k s))) (value-text key (w .0) v (w .2))
 
   -- and the other way round
   module _ (r : List ℕ) (h : behind k s ≡ key ++ v ++ (lineFeed ∷ r)) (f : feedless key ≡ true) (g : feedless v ≡ true) where
@@ -106,22 +92,13 @@ module _ (s : List ℕ) (n k : ℕ) (at : pred n ≡ k) (key v : List ℕ) where
     row-read =
         ap (λ (i : ℕ). found (firstLine (behind i s)) (valueOf key)) at
         ∙ ap (λ (u : List ℕ). found (firstLine u) (valueOf key)) h
-        ∙ ap (λ (o : Option (List ℕ)). found o (valueOf key)) (first-of (key ++ v) r (feedless-join key v f g))
+        ∙ ap (λ (o : Option (List ℕ)). found o (valueOf key)) (first-of (key ++ v) r (feedless-joined key v f g))
         ∙ value-own key v
 
     row-behind : behindFirst (behind k s) ≡ r
-    row-behind = ap behindFirst h ∙ behind-of (key ++ v) r (feedless-join key v f g)
+    row-behind = ap behindFirst h ∙ behind-of (key ++ v) r (feedless-joined key v f g)
 
 -- ---- the values
-
-same-text : (a b : List ℕ) → sameAs a b ≡ true → a ≡ b
-unfolding sameAs
-same-text [] [] h = refl
-same-text [] (y ∷ ys) h = let z : _≡_ {A = ℕ} 0 1 = cc in absurd (omega arith)
-same-text (x ∷ xs) [] h = let z : _≡_ {A = ℕ} 0 1 = cc in absurd (omega arith)
-same-text (x ∷ xs) (y ∷ ys) h =
-    let w = both (eqb x y) (sameAs xs ys) h in
-    ap₂ (λ (a : ℕ) (l : List ℕ). a ∷ l) (eqb-true x y (w .0)) (same-text xs ys (w .1))
 
 -- each word of the list is the name of what it stands for
 abbrev Named : {A : Type 0} → (A → String) → List (String × A) → Type 0
@@ -130,7 +107,7 @@ Named name (w ∷ ws) = (text (w .0) ≡ text (name (w .1))) × Named name ws
 
 word-text : {A : Type 0} (name : A → String) (ws : List (String × A)) → Named name ws → (v : List ℕ) {a : A} → wordIn ws v ≡ some a → v ≡ text (name a)
 unfolding wordIn
-word-text name [] n v h = let z : _≡_ {A = ℕ} 0 1 = cc in absurd (omega arith)
+word-text name [] n v {a} h = absurd (Option·none-ne-some a h)
 word-text name (w ∷ ws) n v {a} h = by (sameAs v (text (w .0))) refl h (word-text name ws (n .1) v)
   where
     by : (x : Bool) → sameAs v (text (w .0)) ≡ x → cond x (some (w .1)) (wordIn ws v) ≡ some a → (wordIn ws v ≡ some a → v ≡ text (name a)) → v ≡ text (name a)
@@ -172,32 +149,11 @@ build-feedless Production = refl
 build-feedless Debug = refl
 
 allowed-text : (allowed : ℕ → Bool) (v : List ℕ) (n : ℕ) → numberIn allowed v ≡ some n → v ≡ decimal n
-unfolding numberIn
-allowed-text allowed v n h = number-text v n (by-number (numberOf v) h)
-  where
-    by-test : (x : Bool) (m : ℕ) → _≡_ {A = Option ℕ} (cond x (some m) none) (some n) → _≡_ {A = Option ℕ} (some m) (some n)
-    by-test true m h = h
-    by-test false m h = let z : _≡_ {A = ℕ} 0 1 = cc in absurd (omega arith)
-
-    by-number : (o : Option ℕ) → found o (λ m. cond (allowed m) (some m) none) ≡ some n → o ≡ some n
-    by-number none h = h
-    by-number (some m) h = by-test (allowed m) m h
+allowed-text allowed v n h = number-text v n (number-some allowed v h .0)
 
 allowed-read : (allowed : ℕ → Bool) (n : ℕ) → allowed n ≡ true → numberIn allowed (decimal n) ≡ some n
 unfolding numberIn
 allowed-read allowed n h = rw (decimal-read n, h)
-
-digits-feedless : (t : List ℕ) → allDigits t ≡ true → feedless t ≡ true
-unfolding allDigits
-digits-feedless [] h = refl
-digits-feedless (b ∷ t) h =
-    let w = both (isDigit b) (allDigits t) h in
-    let d = digit-bounds b (w .0) in
-    let f : b ≡ 10 → ⊥ = λ e. (omega arith) in
-    and (not (eqb b lineFeed)) (feedless t) (ap not (ne-eqb b lineFeed f)) (digits-feedless t (w .1))
-
-decimal-feedless : (n : ℕ) → feedless (decimal n) ≡ true
-decimal-feedless n = digits-feedless (decimal n) (decimal-all n)
 
 -- ---- the seven rows
 
@@ -211,14 +167,11 @@ seven-join a b c d e f g r = simp append-assoc
 -- what line n says, as a row of the text
 module _ {A : Type 0} (s : List ℕ) (n k : ℕ) (at : pred n ≡ k) (key : String) (allowed : List ℕ → Option A) (name : A → List ℕ) where
   says-row : ((v : List ℕ) (a : A) → allowed v ≡ some a → v ≡ name a) → (a : A) → lineSays s n key allowed ≡ some a → behind k s ≡ row key (name a) ++ behindFirst (behind k s)
-  says-row f a h = by (valueAt n (text key ++ text "=") s) refl h
-    where
-      by : (o : Option (List ℕ)) → valueAt n (text key ++ text "=") s ≡ o → found o allowed ≡ some a → behind k s ≡ row key (name a) ++ behindFirst (behind k s)
-      by none e h = let z : _≡_ {A = ℕ} 0 1 = cc in absurd (omega arith)
-      by (some v) e h =
-          row-text s n k at (text key ++ text "=") v e
-          ∙ ap (λ (u : List ℕ). (text key ++ text "=") ++ u ++ (lineFeed ∷ behindFirst (behind k s))) (f v a h)
-          ∙ sym (row-join key (name a) (behindFirst (behind k s)))
+  says-row f a h =
+      let v = found-some (valueAt n (text key ++ text "=") s) allowed h in
+      row-text s n k at (text key ++ text "=") (v .0) (v .1)
+      ∙ ap (λ (u : List ℕ). (text key ++ text "=") ++ u ++ (lineFeed ∷ behindFirst (behind k s))) (f (v .0) a (v .2))
+      ∙ sym (row-join key (name a) (behindFirst (behind k s)))
 
   module _ (a : A) (r : List ℕ) (h : behind k s ≡ row key (name a) ++ r) (f : feedless (text key ++ text "=") ≡ true) (g : feedless (name a) ≡ true) where
     row-says : allowed (name a) ≡ some a → lineSays s n key allowed ≡ some a
@@ -312,15 +265,15 @@ written-read card pack h =
     let b3 : behind 2 s ≡ from-3 card pack =
     row-rest s 2 1 refl "build" (wordIn builds) build-text (card .build) (from-3 card pack) b2 refl (build-feedless (card .build)) in
     let b4 : behind 3 s ≡ from-4 card pack =
-    row-rest s 3 2 refl "gprs" (numberIn gprsAllowed) decimal (card .gprs) (from-4 card pack) b3 refl (decimal-feedless (card .gprs)) in
+    row-rest s 3 2 refl "gprs" (numberIn gprsAllowed) decimal (card .gprs) (from-4 card pack) b3 refl (feedless-decimal (card .gprs)) in
     let b5 : behind 4 s ≡ from-5 card pack =
-    row-rest s 4 3 refl "temps" (numberIn (tempsAllowed (card .gprs))) decimal (card .temps) (from-5 card pack) b4 refl (decimal-feedless (card .temps)) in
+    row-rest s 4 3 refl "temps" (numberIn (tempsAllowed (card .gprs))) decimal (card .temps) (from-5 card pack) b4 refl (feedless-decimal (card .temps)) in
     let b6 : behind 5 s ≡ from-6 card pack =
-    row-rest s 5 4 refl "consts" (numberIn constsAllowed) decimal (card .consts) (from-6 card pack) b5 refl (decimal-feedless (card .consts)) in
+    row-rest s 5 4 refl "consts" (numberIn constsAllowed) decimal (card .consts) (from-6 card pack) b5 refl (feedless-decimal (card .consts)) in
     let b7 : behind 6 s ≡ from-7 card pack =
-    row-rest s 6 5 refl "stack" (numberIn stackAllowed) decimal (card .stack) (from-7 card pack) b6 refl (decimal-feedless (card .stack)) in
+    row-rest s 6 5 refl "stack" (numberIn stackAllowed) decimal (card .stack) (from-7 card pack) b6 refl (feedless-decimal (card .stack)) in
     let b8 : behind 7 s ≡ from-8 card pack =
-    row-rest s 7 6 refl "quads" (numberIn quadsAllowed) decimal (card .quads .0) (from-8 card pack) b7 refl (decimal-feedless (card .quads .0)) in
+    row-rest s 7 6 refl "quads" (numberIn quadsAllowed) decimal (card .quads .0) (from-8 card pack) b7 refl (feedless-decimal (card .quads .0)) in
     says-whole s card (length (written card))
     (record {
       kind-line =
@@ -328,15 +281,15 @@ written-read card pack h =
       build-line =
           row-says s 2 1 refl "build" (wordIn builds) build-text (card .build) (from-3 card pack) b2 refl (build-feedless (card .build)) (build-read (card .build));
       gprs-line =
-          row-says s 3 2 refl "gprs" (numberIn gprsAllowed) decimal (card .gprs) (from-4 card pack) b3 refl (decimal-feedless (card .gprs)) (allowed-read gprsAllowed (card .gprs) (t .0));
+          row-says s 3 2 refl "gprs" (numberIn gprsAllowed) decimal (card .gprs) (from-4 card pack) b3 refl (feedless-decimal (card .gprs)) (allowed-read gprsAllowed (card .gprs) (t .0));
       temps-line =
-          row-says s 4 3 refl "temps" (numberIn (tempsAllowed (card .gprs))) decimal (card .temps) (from-5 card pack) b4 refl (decimal-feedless (card .temps)) (allowed-read (tempsAllowed (card .gprs)) (card .temps) (t .1));
+          row-says s 4 3 refl "temps" (numberIn (tempsAllowed (card .gprs))) decimal (card .temps) (from-5 card pack) b4 refl (feedless-decimal (card .temps)) (allowed-read (tempsAllowed (card .gprs)) (card .temps) (t .1));
       consts-line =
-          row-says s 5 4 refl "consts" (numberIn constsAllowed) decimal (card .consts) (from-6 card pack) b5 refl (decimal-feedless (card .consts)) (allowed-read constsAllowed (card .consts) (t .2));
+          row-says s 5 4 refl "consts" (numberIn constsAllowed) decimal (card .consts) (from-6 card pack) b5 refl (feedless-decimal (card .consts)) (allowed-read constsAllowed (card .consts) (t .2));
       stack-line =
-          row-says s 6 5 refl "stack" (numberIn stackAllowed) decimal (card .stack) (from-7 card pack) b6 refl (decimal-feedless (card .stack)) (allowed-read stackAllowed (card .stack) (t .3));
+          row-says s 6 5 refl "stack" (numberIn stackAllowed) decimal (card .stack) (from-7 card pack) b6 refl (feedless-decimal (card .stack)) (allowed-read stackAllowed (card .stack) (t .3));
       quads-line =
-          row-says s 7 6 refl "quads" (numberIn quadsAllowed) decimal (card .quads .0) (from-8 card pack) b7 refl (decimal-feedless (card .quads .0)) (allowed-read quadsAllowed (card .quads .0) (t .4));
+          row-says s 7 6 refl "quads" (numberIn quadsAllowed) decimal (card .quads .0) (from-8 card pack) b7 refl (feedless-decimal (card .quads .0)) (allowed-read quadsAllowed (card .quads .0) (t .4));
       taken =
           lines-place 7 (length (written card)) s (omega (arith, length-append (written card) pack))
           (drop-append-seam (written card) pack ∙ sym b8);

@@ -1,7 +1,7 @@
 -- The card of document 01, "What the judge reads": seven lines key=value, each ended by one line feed, in the order of its table.
-use Prim.Native.Nat.{ℕ, _+_, _≤_}
+use Prim.Native.Nat.{ℕ, _+_}
 use Prim.Native.String.{String}
-use mathlib.Core.Bool.{Bool, cond, _&&_}
+use mathlib.Core.Bool.{Bool, _&&_}
 use mathlib.Core.List.{List, [], _∷_, _++_}
 use mathlib.Core.Option.{Option, none, some}
 use lib.Dec.{leb}
@@ -14,8 +14,6 @@ use Rattle.card.specs.declared.Build.the-variants.{Production, Debug}
 use Rattle.card.specs.declared.Card.{Card}
 use Rattle.card.specs.declared.CardRead.{CardRead}
 use Rattle.card.specs.declared.CardRead.the-variants as read
-use Rattle.card.specs.declared.CardTest.{CardTest}
-use Rattle.card.specs.declared.CardTest.the-variants as test
 
 -- ---- what each line allows: the table's last column, for a card that is read and for one that a caller makes
 
@@ -89,35 +87,10 @@ cardOf s = do
   quads ← line s 7 "quads" (numberIn quadsAllowed)
   read.Whole (cardWith kind build gprs temps consts stack quads) (linesLength 7 s)
 
--- ---- a card that a caller makes
-
--- the first line whose test fails
-abbrev pub firstNot : List (ℕ × Bool) → CardTest
-firstNot [] = test.InRange
-firstNot (t ∷ ts) = cond (t .1) (firstNot ts) (test.BadLine (t .0))
+-- ---- a card by value
 
 -- the figures held to the same table, line by line; kind and build are always one of those that it allows
 abbrev pub figureTests : Card → List (ℕ × Bool)
 figureTests card =
-    (3, gprsAllowed (card .gprs))
-    ∷ (4, tempsAllowed (card .gprs) (card .temps))
-    ∷ (5, constsAllowed (card .consts))
-    ∷ (6, stackAllowed (card .stack))
-    ∷ (7, quadsAllowed (card .quads .0))
-    ∷ []
-
-unfoldable pub testOf : Card → CardTest
-testOf card = firstNot (figureTests card)
-
--- ---- what the laws of proofs/OfCard.antt say of a card
-
--- its figures are in range
-pub record Ranges (card : Card) : Type 0 where
-  pub gprs-least : 1 ≤ card .gprs
-  pub gprs-most : card .gprs ≤ 128
-  pub temps-most : card .temps ≤ 4
-  pub together-most : card .gprs + card .temps ≤ 128
-  pub consts-most : card .consts ≤ 256
-  pub stack-most : card .stack ≤ 32
-  pub quads-least : 1 ≤ card .quads .0
-  pub quads-most : card .quads .0 ≤ 8192
+    (3, gprsAllowed (card .gprs)) ∷ (4, tempsAllowed (card .gprs) (card .temps)) ∷ (5, constsAllowed (card .consts))
+    ∷ (6, stackAllowed (card .stack)) ∷ (7, quadsAllowed (card .quads .0)) ∷ []

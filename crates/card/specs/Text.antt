@@ -1,5 +1,6 @@
--- Texts as bytes: lines, keys, words and decimal numbers, as document 01 writes the card with them. Nothing here knows the card.
-use Prim.Native.Nat.{ℕ, zero, suc, pred, _+_, _-_, _*_, _^_}
+-- Texts as bytes: lines, keys, words and decimal numbers, as document 01 writes the card with them. Nothing here knows the card. The
+-- bytes of a quoted text, and what digits stand for, are ascii's.
+use Prim.Native.Nat.{ℕ, zero, suc, pred, _-_}
 use Prim.Native.Char.{code}
 use Prim.Native.String.{String}
 use mathlib.Core.Bool.{Bool, true, false, cond, not, _&&_}
@@ -7,7 +8,9 @@ use mathlib.Core.List.{List, [], _∷_}
 use mathlib.Core.Option.{Option, none, some, Option·map}
 use lib.Dec.{eqb, leb}
 use lib.ListN.{length, drop}
-pub use Rattle.ascii.specs.Ascii.{ascii as text}
+pub use Rattle.ascii.specs.Ascii.{ascii as text, lineFeed}
+pub use Rattle.ascii.specs.Decimal.{isDigit}
+unfoldable pub use Rattle.ascii.specs.Decimal.{allDigits, digitsValue}
 
 -- what is found is handed on; nothing found is nothing found
 abbrev pub found : {A B : Type 0} → Option A → (A → Option B) → Option B
@@ -15,9 +18,6 @@ found none f = none
 found (some a) f = f a
 
 -- ---- lines
-
-abbrev pub lineFeed : ℕ
-lineFeed = code "\n"
 
 -- the bytes before the first line feed; none where there is no line feed
 unfoldable pub firstLine : List ℕ → Option (List ℕ)
@@ -72,23 +72,11 @@ wordIn (w ∷ ws) t = cond (sameAs t (text (w .0))) (some (w .1)) (wordIn ws t)
 
 -- ---- decimal numbers
 
-abbrev pub isDigit : ℕ → Bool
-isDigit b = leb (code "0") b && leb b (code "9")
-
-unfoldable pub allDigits : List ℕ → Bool
-allDigits [] = true
-allDigits (b ∷ t) = isDigit b && allDigits t
-
 -- one digit, or several of which the first is not 0: neither sign nor leading zero, and not empty
 unfoldable pub isDecimal : List ℕ → Bool
 isDecimal [] = false
 isDecimal (b ∷ []) = isDigit b
 isDecimal (b ∷ c ∷ t) = not (eqb b (code "0")) && allDigits (b ∷ c ∷ t)
-
--- the number that digits stand for: each counts ten to the power of the digits behind it
-unfoldable pub digitsValue : List ℕ → ℕ
-digitsValue [] = 0
-digitsValue (b ∷ t) = (b - code "0") * 10 ^ length t + digitsValue t
 
 -- the number that a text is; none where it is not one
 unfoldable pub numberOf : List ℕ → Option ℕ

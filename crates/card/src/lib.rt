@@ -3,14 +3,15 @@
 // The table of its lines stands once in each layer: as a definition in specs/Card.antt, as functions in rows.rt, with the limits in
 // limits.rt. A line more is a row more in each.
 ghost use mathlib.Core.Path.{_≡_};
-ghost use Rattle.card.specs.Card.{cardOf, testOf};
+ghost use Rattle.card.specs.Card.{cardOf};
+ghost use Rattle.card.specs.Made.{testOf};
 
 mod limits;
-mod rows;
+mod lines;
 mod text;
 
-use rows::BuildRead;
-use rows::KindRead;
+use lines::BuildRead;
+use lines::KindRead;
 use text::Figure;
 use units::Quadwords;
 
@@ -60,25 +61,25 @@ pub enum CardTest {
 pub fn read_card(bytes: &[u8]) -> CardRead
     ensures { λ r. ⌜ r ≡ cardOf (now (bytes .entry)) ⌝ }
 {
-    let KindRead::Is(kind, build_at) = rows::kind_line(bytes, 0) else {
+    let KindRead::Is(kind, build_at) = lines::kind_line(bytes, 0) else {
         return CardRead::BadLine(1);
     };
-    let BuildRead::Is(build, gprs_at) = rows::build_line(bytes, build_at) else {
+    let BuildRead::Is(build, gprs_at) = lines::build_line(bytes, build_at) else {
         return CardRead::BadLine(2);
     };
-    let Figure::Is(gprs, temps_at) = rows::gprs_line(bytes, gprs_at) else {
+    let Figure::Is(gprs, temps_at) = lines::gprs_line(bytes, gprs_at) else {
         return CardRead::BadLine(3);
     };
-    let Figure::Is(temps, consts_at) = rows::temps_line(bytes, temps_at, gprs) else {
+    let Figure::Is(temps, consts_at) = lines::temps_line(bytes, temps_at, gprs) else {
         return CardRead::BadLine(4);
     };
-    let Figure::Is(consts, stack_at) = rows::consts_line(bytes, consts_at) else {
+    let Figure::Is(consts, stack_at) = lines::consts_line(bytes, consts_at) else {
         return CardRead::BadLine(5);
     };
-    let Figure::Is(stack, quads_at) = rows::stack_line(bytes, stack_at) else {
+    let Figure::Is(stack, quads_at) = lines::stack_line(bytes, stack_at) else {
         return CardRead::BadLine(6);
     };
-    let Figure::Is(quads, taken) = rows::quads_line(bytes, quads_at) else {
+    let Figure::Is(quads, taken) = lines::quads_line(bytes, quads_at) else {
         return CardRead::BadLine(7);
     };
     let card = Card {

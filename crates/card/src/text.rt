@@ -6,7 +6,7 @@ ghost use mathlib.Core.Path.{_≡_};
 ghost use Prim.Native.Nat.{_+_, _≤_};
 ghost use lib.ListN.{length, take, drop};
 ghost use Rattle.card.specs.Text.{found, firstLine, beginsWith, numberIn, from_to_};
-ghost use Rattle.card.specs.Answers.{placeRead, figureRead, nextLine, wellFormed};
+ghost use Rattle.card.specs.Code.{placeRead, figureRead, nextLine, wellFormed};
 use crate::limits::Limits;
 
 const LINE_FEED: u8 = b'\n';

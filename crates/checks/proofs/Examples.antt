@@ -4,7 +4,6 @@ use mathlib.Core.Bool.{Bool, true, false}
 use mathlib.Core.List.{List, [], _∷_}
 use Prim.Native.Nat.{ℕ}
 use Rattle.units.specs.Units.{quadwords, slots}
-use Rattle.checks.specs.declared.Rule.the-variants.{CfField, ClauseRange, NotGranted}
 use Rattle.checks.specs.declared.Place.the-variants.{Quadword}
 use Rattle.checks.specs.declared.Verdict.{Verdict}
 use Rattle.checks.specs.Verdict.{verdictNumber, verdictPlace, verdictSlot}
@@ -13,9 +12,9 @@ use Rattle.checks.specs.Checks.{Check, check, firstBroken}
 -- 5 at quadword 0; 15 at quadword 0, slot 3; 6 at quadword 40
 abbrev three : Bool → Bool → Bool → List Check
 three field grant range =
-    check CfField (Quadword (quadwords 0)) (slots 0) field
-    ∷ check NotGranted (Quadword (quadwords 0)) (slots 3) grant
-    ∷ check ClauseRange (Quadword (quadwords 40)) (slots 0) range
+    check 5 (Quadword (quadwords 0)) (slots 0) field
+    ∷ check 15 (Quadword (quadwords 0)) (slots 3) grant
+    ∷ check 6 (Quadword (quadwords 40)) (slots 0) range
     ∷ []
 
 -- a verdict as the report has it

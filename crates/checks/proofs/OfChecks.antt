@@ -1,17 +1,18 @@
 -- The verdict of a list of checks: laws over any list, each proved once. Assumes nothing.
 use Prim.Native.Nat.{ℕ, zero, suc, _<_}
 use mathlib.Core.Path.{_≡_, refl, sym, _∙_, ap, subst}
-use mathlib.Core.Bool.{Bool, true, false, cond}
+use mathlib.Core.Bool.{Bool, true, false, cond, true≢false}
 use mathlib.Core.List.{List, [], _∷_, _++_, List·Memᴰ, List·Memᴰ·head, List·Memᴰ·tail, List·Memᴰ·not-nil, List·Memᴰ·cases-cons, Memᴰ·append-left, Memᴰ·append-right}
 use mathlib.Core.Logic.{⊎-elim, _↔_}
 use native.Mathlib.Nat.{le-of-suc-le-suc, not-suc-le-zero, eq-or-lt-of-le, le-refl, le-step}
-use native.Mathlib.Omega.{arith}
+use Rattle.laws.proofs.OfCases.{impossible}
+use Rattle.laws.proofs.OfTests.{by-test}
 use Rattle.units.specs.declared.Slots.{Slots}
-use Rattle.checks.specs.declared.Rule.{Rule}
 use Rattle.checks.specs.declared.Place.{Place}
 use Rattle.checks.specs.declared.Verdict.{Verdict}
 use Rattle.checks.specs.declared.Verdict.the-variants.{Accepted, Refused}
-use Rattle.checks.specs.Checks.{Check, check, firstBroken, below, Unbroken, BrokenFirst, Eases, EachEases, none-left, and-then}
+use Rattle.checks.specs.Checks.{Check, check, firstBroken, below}
+use Rattle.checks.specs.Laws.{Unbroken, BrokenFirst, Eases, EachEases, none-left, and-then}
 
 -- ---- a list by its first check
 
@@ -23,16 +24,11 @@ pub miss : (c : Check) (cs : List Check) → c .broken ≡ false → firstBroken
 unfolding firstBroken
 miss c cs e = rw e
 
--- broken or not
-pub by-broken : {P : Type 0} (t : Bool) → (t ≡ true → P) → (t ≡ false → P) → P
-by-broken true f g = f refl
-by-broken false f g = g refl
-
-pub never-accepted : {r : Rule} {p : Place} {s : Slots} → Refused r p s ≡ Accepted → ⊥
-never-accepted h = let z : _≡_ {A = ℕ} 0 1 = cc in omega arith
+pub never-accepted : {r : ℕ} {p : Place} {s : Slots} → Refused r p s ≡ Accepted → ⊥
+never-accepted h = impossible cc
 
 pub first-clean : (c : Check) (cs : List Check) → firstBroken (c ∷ cs) ≡ Accepted → c .broken ≡ false
-first-clean c cs h = by-broken (c .broken) (λ e. absurd (never-accepted (sym (hit c cs e) ∙ h))) (λ e. e)
+first-clean c cs h = by-test (c .broken) (λ e. absurd (never-accepted (sym (hit c cs e) ∙ h))) (λ e. e)
 
 pub rest-clean : (c : Check) (cs : List Check) → firstBroken (c ∷ cs) ≡ Accepted → firstBroken cs ≡ Accepted
 rest-clean c cs h = sym (miss c cs (first-clean c cs h)) ∙ h
@@ -59,7 +55,7 @@ pub joined-clean : (a b : List Check) → firstBroken a ≡ Accepted → firstBr
 joined-clean a b h = joined a b ∙ ap (λ v. andThen v (firstBroken b)) h
 
 -- the first list refuses: so does the whole
-pub joined-refused : (a b : List Check) {r : Rule} {p : Place} {s : Slots} → firstBroken a ≡ Refused r p s → firstBroken (a ++ b) ≡ Refused r p s
+pub joined-refused : (a b : List Check) {r : ℕ} {p : Place} {s : Slots} → firstBroken a ≡ Refused r p s → firstBroken (a ++ b) ≡ Refused r p s
 joined-refused a b h = joined a b ∙ ap (λ v. andThen v (firstBroken b)) h
 
 pub left-clean : (a b : List Check) → firstBroken (a ++ b) ≡ Accepted → firstBroken a ≡ Accepted
@@ -93,13 +89,13 @@ accepted-exactly-if cs = (accepted-member cs, unbroken-accepted cs)
 
 -- ---- a refusal names the first broken check
 
-same-check : (c : Check) {r : Rule} {p : Place} {s : Slots} → c .rule ≡ r → c .place ≡ p → c .slot ≡ s → c .broken ≡ true → c ≡ check r p s true
+same-check : (c : Check) {r : ℕ} {p : Place} {s : Slots} → c .rule ≡ r → c .place ≡ p → c .slot ≡ s → c .broken ≡ true → c ≡ check r p s true
 same-check c e f g h = λ i. record { rule = e i; place = f i; slot = g i; broken = h i }
 
-pub refused-first : (cs : List Check) {r : Rule} {p : Place} {s : Slots} → firstBroken cs ≡ Refused r p s → BrokenFirst cs r p s
+pub refused-first : (cs : List Check) {r : ℕ} {p : Place} {s : Slots} → firstBroken cs ≡ Refused r p s → BrokenFirst cs r p s
 unfolding firstBroken
 refused-first [] h = absurd (never-accepted (sym h))
-refused-first (c ∷ cs) {r} {p} {s} h = by-broken (c .broken) here (λ e. further e (refused-first cs (sym (miss c cs e) ∙ h)))
+refused-first (c ∷ cs) {r} {p} {s} h = by-test (c .broken) here (λ e. further e (refused-first cs (sym (miss c cs e) ∙ h)))
   where
     here : c .broken ≡ true → BrokenFirst (c ∷ cs) r p s
     here e =
@@ -122,13 +118,13 @@ refused-first (c ∷ cs) {r} {p} {s} h = by-broken (c .broken) here (λ e. furth
               ⊎-elim (λ q. ap (λ (x : Check). x .broken) q ∙ e) (λ t. b .none-earlier d t) (List·Memᴰ·cases-cons m);
         }
 
-pub first-refused : (cs : List Check) {r : Rule} {p : Place} {s : Slots} → BrokenFirst cs r p s → firstBroken cs ≡ Refused r p s
+pub first-refused : (cs : List Check) {r : ℕ} {p : Place} {s : Slots} → BrokenFirst cs r p s → firstBroken cs ≡ Refused r p s
 first-refused cs {r} {p} {s} b =
     ap firstBroken (b .parts)
     ∙ joined-clean (b .earlier) (check r p s true ∷ b .later) (unbroken-accepted (b .earlier) (b .none-earlier))
     ∙ hit (check r p s true) (b .later) refl
 
-pub refused-exactly-if : (cs : List Check) (r : Rule) (p : Place) (s : Slots) → firstBroken cs ≡ Refused r p s ↔ BrokenFirst cs r p s
+pub refused-exactly-if : (cs : List Check) (r : ℕ) (p : Place) (s : Slots) → firstBroken cs ≡ Refused r p s ↔ BrokenFirst cs r p s
 refused-exactly-if cs r p s = (refused-first cs, first-refused cs)
 
 -- ---- positions in a row
@@ -144,7 +140,7 @@ module _ (f : ℕ → List Check) where
   below-next p h k = joined-clean (below f p) (f p) h ∙ k
 
   -- the positions below p are clean, and p is not: the verdict of any longer row is p's
-  pub below-found : (n p : ℕ) {a : Rule} {b : Place} {s : Slots} → p < n → firstBroken (below f p) ≡ Accepted → firstBroken (f p) ≡ Refused a b s → firstBroken (below f n) ≡ Refused a b s
+  pub below-found : (n p : ℕ) {a : ℕ} {b : Place} {s : Slots} → p < n → firstBroken (below f p) ≡ Accepted → firstBroken (f p) ≡ Refused a b s → firstBroken (below f n) ≡ Refused a b s
   unfolding below
   below-found zero p l h k = absurd (not-suc-le-zero l)
   below-found (suc n) p l h k =
@@ -170,19 +166,16 @@ module _ (f : ℕ → List Check) where
 
 -- ---- two lists that differ only in that each broken check of the second is broken in the first
 
-pub eases : (r : Rule) (p : Place) (s : Slots) (b d : Bool) → (d ≡ true → b ≡ true) → Eases (check r p s b) (check r p s d)
+pub eases : (r : ℕ) (p : Place) (s : Slots) (b d : Bool) → (d ≡ true → b ≡ true) → Eases (check r p s b) (check r p s d)
 eases r p s b d h = record { same-rule = refl; same-place = refl; same-slot = refl; no-harder = h }
 
 pub eased-accepted : (cs ds : List Check) → EachEases cs ds → firstBroken cs ≡ Accepted → firstBroken ds ≡ Accepted
 unfolding firstBroken
 eased-accepted [] [] none-left h = h
 eased-accepted (c ∷ cs) (d ∷ ds) (and-then e es) h =
-    by-broken (d .broken)
-    (λ t. absurd (never-both (e .no-harder t) (first-clean c cs h)))
+    by-test (d .broken)
+    (λ t. absurd (true≢false (sym (e .no-harder t) ∙ first-clean c cs h)))
     (λ t. miss d ds t ∙ eased-accepted cs ds es (rest-clean c cs h))
-  where
-    never-both : c .broken ≡ true → c .broken ≡ false → ⊥
-    never-both p q = let z : _≡_ {A = ℕ} 0 1 = cc in omega arith
 
 pub eased-same : (cs : List Check) → EachEases cs cs
 eased-same [] = none-left

@@ -3,7 +3,7 @@ use Prim.Native.Nat.{ℕ}
 use mathlib.Core.Path.{_≡_, refl}
 use mathlib.Core.Bool.{Bool, true, false}
 use mathlib.Core.List.{List, [], _∷_}
-use Rattle.units.specs.Units.{quadwords, slots, lowAt, highAt}
+use Rattle.units.specs.Units.{quadwords, slots, lowAt, highAt, liesIn}
 use Rattle.checks.specs.Verdict.{verdictNumber, verdictPlace, verdictSlot}
 use Rattle.checks.specs.Checks.{firstBroken, below}
 use Rattle.card.specs.declared.Kind.{Kind}
@@ -11,8 +11,8 @@ use Rattle.card.specs.declared.Kind.the-variants.{Pixel, Vertex}
 use Rattle.opcodes.specs.Alu.{op2, op3, op2Class, op3Class}
 use Rattle.grants.specs.declared.Limits.{Limits}
 use Rattle.instructions.specs.Instruction.{isOp3, classOf, badNumber, isRelative, sourceLiterals, literals, badSource, badField, hasRelative, isWritten, destinationNames, namesOf, named}
-use Rattle.groups.specs.Group.{countBelow, anyBelow, literalsBelow, isTaken, occupied, isAny, isTrans, unitFor, takenFrom, badUnit, unitOf, takenBefore, unitAt, badUnitAt, isSetter, isKill, isMova, isReduction, setters, settersAndKills, anyKill, anyMova, anyRelative, anyReduction, isAlike, isUneven, anyUneven, badIssue, eachOf, ruleChecks}
-use Rattle.clauses.specs.Clause.{lowOf, highOf, isLast, sizeFrom, sizeOf, spanOf, badShape, groupsFrom, groupsOf, isPixel, groupChecks, checksOf, settersIn, badPush, insideBuffer, clauseChecks}
+use Rattle.groups.specs.Group.{countBelow, anyBelow, allBelow, literalsBelow, someUnit, unitFor, unitsBefore, unitAt, badUnit, badUnitAt, issued, isAlike, isFilled, badReduction, badIssue, eachOf, ruleChecks}
+use Rattle.clauses.specs.Clause.{lowOf, highOf, isLast, sizeFrom, sizeOf, spanOf, badShape, groupsFrom, groupsOf, isPixel, groupChecks, checksOf, settersIn, badPush, clauseChecks}
 
 -- four registers, two clause temporaries, eight constants, the first sixteen of set 0 and all of set 1
 abbrev limits : Limits
@@ -73,11 +73,12 @@ answers :
     × (answer Vertex false 1 (0x80000000 ∷ 0x1600 ∷ []) ≡ 14 ∷ 0 ∷ 0 ∷ [])
     -- MOVA beside a relative source that MOV does not read
     × (answer Pixel false 2 (0 ∷ 0xa80 ∷ 0x80400000 ∷ 0x20000c90 ∷ []) ≡ 14 ∷ 0 ∷ 0 ∷ [])
-    -- DOT4 in all four; one of another number; only three of them; CLAMP in one
+    -- DOT4 in all four; one of another number; only three of them; CLAMP in one; OMOD in one
     × (answer Pixel false 4 (0 ∷ 0x2810 ∷ 0 ∷ 0x20002810 ∷ 0 ∷ 0x40002810 ∷ 0x80000000 ∷ 0x60002810 ∷ []) ≡ 0 ∷ 0 ∷ 0 ∷ [])
     × (answer Pixel false 4 (0 ∷ 0x2810 ∷ 0 ∷ 0x20002810 ∷ 0 ∷ 0x40002810 ∷ 0x80000000 ∷ 0x60002910 ∷ []) ≡ 14 ∷ 0 ∷ 0 ∷ [])
     × (answer Pixel false 3 (0 ∷ 0x2810 ∷ 0 ∷ 0x20002810 ∷ 0x80000000 ∷ 0x40002810 ∷ []) ≡ 14 ∷ 0 ∷ 0 ∷ [])
     × (answer Pixel false 4 (0 ∷ 0x2810 ∷ 0 ∷ 0xa0002810 ∷ 0 ∷ 0x40002810 ∷ 0x80000000 ∷ 0x60002810 ∷ []) ≡ 14 ∷ 0 ∷ 0 ∷ [])
+    × (answer Pixel false 4 (0 ∷ 0x2810 ∷ 0 ∷ 0x20002830 ∷ 0 ∷ 0x40002810 ∷ 0x80000000 ∷ 0x60002810 ∷ []) ≡ 14 ∷ 0 ∷ 0 ∷ [])
     -- DOT4 in all four and a MOV in Trans
     × (answer Pixel false 5 (0 ∷ 0x2810 ∷ 0 ∷ 0x20002810 ∷ 0 ∷ 0x40002810 ∷ 0 ∷ 0x60002810 ∷ 0x80000000 ∷ 0xc90 ∷ []) ≡ 0 ∷ 0 ∷ 0 ∷ [])
     -- ---- 14, after all groups: PUSH_BEFORE holds exactly one predicate setter
@@ -106,8 +107,9 @@ answers :
     × (answer Pixel false 3 (0x80000000 ∷ 0xc90 ∷ 0 ∷ 0xc90 ∷ 0x80000000 ∷ 0x20020108 ∷ []) ≡ 15 ∷ 0 ∷ 2 ∷ [])
     -- a clause that does not lie in the buffer is rule 6's
     × (answer Pixel false 3 (0 ∷ 0xc90 ∷ []) ≡ 0 ∷ 0 ∷ 0 ∷ [])
-unfolding clauseChecks insideBuffer checksOf groupChecks groupsOf groupsFrom badShape spanOf sizeOf sizeFrom isLast lowOf highOf lowAt highAt settersIn badPush isPixel firstBroken below isOp3 classOf badNumber isRelative sourceLiterals literals badSource badField hasRelative isWritten destinationNames namesOf named op2 op3 op2Class op3Class countBelow anyBelow literalsBelow isTaken occupied isAny isTrans unitFor takenFrom badUnit unitOf takenBefore unitAt badUnitAt isSetter isKill isMova isReduction setters settersAndKills anyKill anyMova anyRelative anyReduction isAlike isUneven anyUneven badIssue eachOf ruleChecks
+unfolding clauseChecks liesIn checksOf groupChecks groupsOf groupsFrom badShape spanOf sizeOf sizeFrom isLast lowOf highOf lowAt highAt settersIn badPush isPixel firstBroken below isOp3 classOf badNumber isRelative sourceLiterals literals badSource badField hasRelative isWritten destinationNames namesOf named op2 op3 op2Class op3Class countBelow anyBelow allBelow literalsBelow someUnit unitFor unitsBefore unitAt badUnit badUnitAt issued isAlike isFilled badReduction badIssue eachOf ruleChecks
 answers = (
+  refl,
   refl,
   refl,
   refl,

@@ -8,32 +8,31 @@ use borrow.Author.Tests.{lt-ltb, le-ltb}
 use native.Mathlib.Omega.{arith}
 use Rattle.units.specs.declared.Quadwords.{Quadwords}
 use Rattle.units.specs.declared.Slots.{Slots}
-use Rattle.units.specs.Units.{words, slots, slotQuadword, slotBehind, slotsLeft}
-use Rattle.checks.specs.declared.Rule.{Rule}
-use Rattle.checks.specs.declared.Rule.the-variants.{GroupShape, IssueLimit}
+use Rattle.units.specs.Units.{words, slots, slotQuadword, slotBehind, slotsLeft, slotsLength, liesIn}
 use Rattle.checks.specs.declared.Place.the-variants.{Quadword}
 use Rattle.checks.specs.declared.Verdict.{Verdict}
 use Rattle.checks.specs.declared.Verdict.the-variants.{Accepted, Refused}
 use Rattle.checks.specs.Checks.{check, firstBroken}
 use Rattle.checks.proofs.OfChecks.{hit, miss, andThen, joined, joined-clean, joined-refused}
 use Rattle.card.specs.declared.Kind.{Kind}
+use Rattle.opcodes.specs.declared.alu.Issue.the-variants.{Predicate}
 use Rattle.grants.specs.declared.Limits.{Limits}
 use Rattle.groups.specs.declared.counts.Count.{Count}
 use Rattle.groups.specs.declared.counts.Count.the-variants.{Nothing}
 use Rattle.groups.specs.declared.GroupFault.{GroupFault}
 use Rattle.groups.specs.declared.GroupFault.the-variants.{Clean, Broken}
-use Rattle.groups.specs.Group.{setters, ruleChecks}
-use Rattle.groups.specs.Seen.{countOf, together, isOne, seenOf, faultOf}
+use Rattle.groups.specs.Group.{issued, ruleChecks}
+use Rattle.groups.specs.Code.{countOf, together, isOne, seenOf, faultOf}
 use Rattle.groups.proofs.OfGroup.{counted-together, counts-one, answer, group-answer}
-use Rattle.clauses.specs.Clause.{lowOf, highOf, sizeOf, spanOf, badShape, groupsFrom, groupsOf, isPixel, mayKill, groupChecks, checksOf, settersIn, badPush, insideBuffer, clauseChecks}
-use Rattle.clauses.specs.Read.{pushVerdict}
+use Rattle.clauses.specs.Clause.{lowOf, highOf, sizeOf, spanOf, badShape, groupsFrom, groupsOf, isPixel, mayKill, groupChecks, checksOf, settersIn, badPush, clauseChecks}
+use Rattle.clauses.specs.CodeRead.{pushVerdict}
 use Rattle.clauses.proofs.OfRead.{shaped}
 
 -- ---- PUSH_BEFORE's count
 
 pub push-refused :
     (push : Bool) (count : Count) (place : Quadwords) (one : Bool) (v : Verdict) → one ≡ isOne count → (push && not one) ≡ true
-    → v ≡ Refused IssueLimit (Quadword place) (slots 0) → v ≡ pushVerdict push count place
+    → v ≡ Refused 14 (Quadword place) (slots 0) → v ≡ pushVerdict push count place
 unfolding pushVerdict
 push-refused push count place one v e h f = f ∙ rw ((λ i. push && not (sym e i)) ∙ h)
 
@@ -45,7 +44,7 @@ push-passed push count place one e h = rw ((λ i. push && not (sym e i)) ∙ h)
 
 push-check :
     (push : Bool) (n : ℕ) (place : Quadwords)
-    → pushVerdict push (countOf n) place ≡ firstBroken (check IssueLimit (Quadword place) (slots 0) (badPush push n) ∷ [])
+    → pushVerdict push (countOf n) place ≡ firstBroken (check 14 (Quadword place) (slots 0) (badPush push n) ∷ [])
 unfolding pushVerdict badPush firstBroken
 push-check push n place = rw (counts-one n)
 
@@ -100,9 +99,9 @@ module _ (pixel : Bool) (limits : Limits) (w : List ℕ) (place s : Quadwords) (
 
     pub along-bad :
         badShape w (slotQuadword s g) (slotsLeft n g) ≡ true
-        → verdict (groupsOf w s n) ≡ Refused GroupShape (Quadword place) g
+        → verdict (groupsOf w s n) ≡ Refused 10 (Quadword place) g
     unfolding checksOf groupChecks
-    along-bad h = here ∙ hit (check GroupShape (Quadword place) g (badShape w (slotQuadword s g) (slotsLeft n g))) _ h
+    along-bad h = here ∙ hit (check 10 (Quadword place) g (badShape w (slotQuadword s g) (slotsLeft n g))) _ h
 
     module _ (h : badShape w (slotQuadword s g) (slotsLeft n g) ≡ false) {fault : GroupFault}
         (f : fault ≡ faultOf (seenOf limits (lowOf w (slotQuadword s g)) (highOf w (slotQuadword s g)) (size g)) (size g) (mayKill pixel n (slotBehind g (span g)))) where
@@ -113,7 +112,7 @@ module _ (pixel : Bool) (limits : Limits) (w : List ℕ) (place s : Quadwords) (
       unfolding checksOf groupChecks
       past =
           here
-          ∙ miss (check GroupShape (Quadword place) g (badShape w (slotQuadword s g) (slotsLeft n g))) _ h
+          ∙ miss (check 10 (Quadword place) g (badShape w (slotQuadword s g) (slotsLeft n g))) _ h
           ∙ ap
           (λ (b : Bool). firstBroken (ruleChecks place g limits (mayKill pixel n (slotBehind g (span g))) (lowOf w (slotQuadword s g)) (highOf w (slotQuadword s g)) (size g) ++ checksOf pixel limits w place s n (cond b [] (groupsFrom w s n (a .fuel - 1) (slotBehind g (span g))))))
           h
@@ -124,24 +123,24 @@ module _ (pixel : Bool) (limits : Limits) (w : List ℕ) (place s : Quadwords) (
           (group-answer place g limits (mayKill pixel n (slotBehind g (span g))) (lowOf w (slotQuadword s g)) (highOf w (slotQuadword s g)) (size g) ∙ ap (answer place g) (sym f))
 
       pub along-fault :
-          {r : Rule} {behind : Slots} → fault ≡ Broken r behind
+          {r : ℕ} {behind : Slots} → fault ≡ Broken r behind
           → verdict (groupsOf w s n) ≡ Refused r (Quadword place) (slotBehind g behind)
       along-fault q =
           past
           ∙ ap (λ (x : GroupFault). andThen (answer place g x) (verdict (groupsFrom w s n (a .fuel - 1) (slotBehind g (span g))))) q
 
       setters-here :
-          settersIn w s n (groupsFrom w s n (a .fuel) g) ≡ setters (highOf w (slotQuadword s g)) (size g) + settersIn w
+          settersIn w s n (groupsFrom w s n (a .fuel) g) ≡ issued Predicate (highOf w (slotQuadword s g)) (size g) + settersIn w
           s n (groupsFrom w s n (a .fuel - 1) (slotBehind g (span g)))
       unfolding settersIn
       setters-here =
           ap (settersIn w s n) (from-here g (a .fuel) l (a .enough))
           ∙ ap
-          (λ (b : Bool). setters (highOf w (slotQuadword s g)) (size g) + settersIn w s n (cond b [] (groupsFrom w s n (a .fuel - 1) (slotBehind g (span g)))))
+          (λ (b : Bool). issued Predicate (highOf w (slotQuadword s g)) (size g) + settersIn w s n (cond b [] (groupsFrom w s n (a .fuel - 1) (slotBehind g (span g)))))
           h
 
       pub along-next :
-          {own more : Count} → fault ≡ Clean → own ≡ countOf (setters (highOf w (slotQuadword s g)) (size g))
+          {own more : Count} → fault ≡ Clean → own ≡ countOf (issued Predicate (highOf w (slotQuadword s g)) (size g))
           → more ≡ together count own → Along more (slotBehind g (span g))
       along-next q o t =
           let room = shaped w (slotQuadword s g) (slotsLeft n g) h in
@@ -149,11 +148,11 @@ module _ (pixel : Bool) (limits : Limits) (w : List ℕ) (place s : Quadwords) (
             within = omega (arith, room .1);
             fuel = a .fuel - 1;
             enough = omega (arith, a .enough, room .0);
-            passed = a .passed + setters (highOf w (slotQuadword s g)) (size g);
+            passed = a .passed + issued Predicate (highOf w (slotQuadword s g)) (size g);
             count-is =
                 t
                 ∙ (λ i. together (a .count-is i) (o i))
-                ∙ counted-together (a .passed) (setters (highOf w (slotQuadword s g)) (size g));
+                ∙ counted-together (a .passed) (issued Predicate (highOf w (slotQuadword s g)) (size g));
             total = omega (arith, a .total, setters-here);
             rest =
                 past
@@ -169,20 +168,20 @@ module _ (pixel : Bool) (limits : Limits) (w : List ℕ) (place s : Quadwords) (
 
   -- ---- the whole clause
 
-  module _ (kind : Kind) (push : Bool) (i : insideBuffer (words (length w)) s n ≡ true) (p : pixel ≡ isPixel kind) where
+  module _ (kind : Kind) (push : Bool) (i : liesIn (words (length w)) s (slotsLength n) ≡ true) (p : pixel ≡ isPixel kind) where
     whole :
         firstBroken (clauseChecks kind push limits w place s n) ≡ firstBroken
-        (checksOf pixel limits w place s n (groupsOf w s n) ++ (check IssueLimit (Quadword place) (slots 0) (badPush push (settersIn w s n (groupsOf w s n))) ∷ []))
+        (checksOf pixel limits w place s n (groupsOf w s n) ++ (check 14 (Quadword place) (slots 0) (badPush push (settersIn w s n (groupsOf w s n))) ∷ []))
     unfolding clauseChecks
     whole =
         rw i
         (λ j.
         firstBroken
         (checksOf (sym p j) limits w place s n (groupsOf w s n)
-        ++ (check IssueLimit (Quadword place) (slots 0) (badPush push (settersIn w s n (groupsOf w s n))) ∷ [])))
+        ++ (check 14 (Quadword place) (slots 0) (badPush push (settersIn w s n (groupsOf w s n))) ∷ [])))
 
     pub clause-refused :
-        {v : Verdict} {r : Rule} {x : Slots} → verdict (groupsOf w s n) ≡ Refused r (Quadword place) x
+        {v : Verdict} {r : ℕ} {x : Slots} → verdict (groupsOf w s n) ≡ Refused r (Quadword place) x
         → v ≡ Refused r (Quadword place) x → v ≡ firstBroken (clauseChecks kind push limits w place s n)
     clause-refused h e = e ∙ sym (whole ∙ joined-refused (checksOf pixel limits w place s n (groupsOf w s n)) _ h)
 
@@ -201,6 +200,6 @@ module _ (pixel : Bool) (limits : Limits) (w : List ℕ) (place s : Quadwords) (
 
 pub outside :
     (kind : Kind) (push : Bool) (limits : Limits) (w : List ℕ) (place s : Quadwords) (n : Slots)
-    → insideBuffer (words (length w)) s n ≡ false → Accepted ≡ firstBroken (clauseChecks kind push limits w place s n)
+    → liesIn (words (length w)) s (slotsLength n) ≡ false → Accepted ≡ firstBroken (clauseChecks kind push limits w place s n)
 unfolding clauseChecks firstBroken
 outside kind push limits w place s n h = rw h

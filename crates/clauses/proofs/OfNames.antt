@@ -11,7 +11,7 @@ use borrow.Author.Tests.{ltb-true, ltb-false}
 use native.Mathlib.Omega.{arith}
 use Rattle.units.specs.declared.Quadwords.{Quadwords}
 use Rattle.units.specs.declared.Slots.{Slots}
-use Rattle.units.specs.Units.{slots, words, slotQuadword, slotBehind, slotsLeft}
+use Rattle.units.specs.Units.{slots, words, slotQuadword, slotBehind, slotsLeft, slotsLength, liesIn}
 use Rattle.checks.specs.declared.Verdict.the-variants.{Accepted}
 use Rattle.checks.specs.Checks.{firstBroken}
 use Rattle.checks.proofs.OfChecks.{first-clean, rest-clean, left-clean, right-clean}
@@ -19,7 +19,7 @@ use Rattle.card.specs.declared.Kind.{Kind}
 use Rattle.grants.specs.declared.Limits.{Limits}
 use Rattle.grants.specs.Grants.{Name, granted}
 use Rattle.groups.proofs.OfGroup.{group-granted}
-use Rattle.clauses.specs.Clause.{lowOf, highOf, isLast, sizeFrom, sizeOf, badShape, sizeAt, spanAt, namedAt, groupsFrom, groupsOf, isPixel, groupChecks, checksOf, insideBuffer, clauseChecks, GroupAt, Fills}
+use Rattle.clauses.specs.Clause.{lowOf, highOf, isLast, sizeFrom, sizeOf, badShape, sizeAt, spanAt, namedAt, groupsFrom, groupsOf, isPixel, groupChecks, checksOf, clauseChecks, GroupAt, Fills}
 use Rattle.clauses.proofs.OfRead.{size-few, size-some, shaped}
 
 module _ (pixel : Bool) (limits : Limits) (w : List ℕ) (place s : Quadwords) (n : Slots) where
@@ -38,7 +38,7 @@ module _ (pixel : Bool) (limits : Limits) (w : List ℕ) (place s : Quadwords) (
 -- the names of the j-th instruction of the group at slot g, for every group of the clause and every instruction of the group
 pub accepted-granted :
     (kind : Kind) (push : Bool) (limits : Limits) (w : List ℕ) (place s : Quadwords) (n : Slots)
-    → insideBuffer (words (length w)) s n ≡ true → firstBroken (clauseChecks kind push limits w place s n) ≡ Accepted → (g : Slots)
+    → liesIn (words (length w)) s (slotsLength n) ≡ true → firstBroken (clauseChecks kind push limits w place s n) ≡ Accepted → (g : Slots)
     → List·Memᴰ g (groupsOf w s n) → (j : ℕ) → j < sizeAt w s n g → (x : Name) → List·Memᴰ x (namedAt w s g j)
     → granted limits x ≡ true
 unfolding clauseChecks groupChecks
@@ -118,7 +118,7 @@ module _ (pixel : Bool) (limits : Limits) (w : List ℕ) (place s : Quadwords) (
 -- the groups of an accepted clause fill it exactly
 pub accepted-filled :
     (kind : Kind) (push : Bool) (limits : Limits) (w : List ℕ) (place s : Quadwords) (n : Slots)
-    → insideBuffer (words (length w)) s n ≡ true → firstBroken (clauseChecks kind push limits w place s n) ≡ Accepted
+    → liesIn (words (length w)) s (slotsLength n) ≡ true → firstBroken (clauseChecks kind push limits w place s n) ≡ Accepted
     → Fills w s n (slots 0) (groupsOf w s n)
 unfolding clauseChecks groupsOf
 accepted-filled kind push limits w place s n i h =

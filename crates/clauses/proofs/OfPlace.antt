@@ -9,9 +9,9 @@ use borrow.Author.Tests.{ltb-true, ltb-false, leb-true, not-false}
 use native.Mathlib.Omega.{arith}
 use Rattle.units.specs.declared.Quadwords.{Quadwords}
 use Rattle.units.specs.declared.Slots.{Slots}
-use Rattle.units.specs.Units.{quadwords, words, slots, quadwordsIn64, slotsIn64, slotQuadword, slotBehind, slotsLeft, isSlotBelow}
+use Rattle.units.specs.Units.{quadwords, words, slots, slotQuadword, slotBehind, slotsLeft, isSlotBelow, slotsLength, liesIn}
+use Rattle.units.specs.Code.{quadwordsIn64, slotsIn64}
 use Rattle.units.proofs.OfUnits.{capped-exact}
-use Rattle.checks.specs.declared.Rule.{Rule}
 use Rattle.checks.specs.declared.Place.the-variants.{Quadword}
 use Rattle.checks.specs.declared.Verdict.{Verdict}
 use Rattle.checks.specs.declared.Verdict.the-variants.{Refused}
@@ -20,11 +20,11 @@ use Rattle.card.specs.declared.Kind.{Kind}
 use Rattle.grants.specs.declared.Limits.{Limits}
 use Rattle.groups.specs.declared.counts.Count.{Count}
 use Rattle.groups.specs.declared.counts.Count.the-variants.{Nothing}
-use Rattle.groups.specs.Seen.{together}
+use Rattle.groups.specs.Code.{together}
 use Rattle.clauses.specs.declared.Step.{Step}
 use Rattle.clauses.specs.declared.Step.the-variants.{Passed, Broken}
-use Rattle.clauses.specs.Clause.{isPixel, insideBuffer, clauseChecks}
-use Rattle.clauses.specs.Read.{Readable, stepOf, pushVerdict}
+use Rattle.clauses.specs.Clause.{isPixel, clauseChecks}
+use Rattle.clauses.specs.CodeRead.{Readable, stepOf, pushVerdict}
 use Rattle.clauses.proofs.OfClause.{Along, along-none, clause-refused, clause-done}
 use Rattle.clauses.proofs.OfStep.{passed-few, broken-few, along-broken, along-passed}
 
@@ -45,12 +45,12 @@ module _ (pixel : Bool) (limits : Limits) (w : List ℕ) (place s : Quadwords) (
         along = subst (λ (g : ℕ). Along pixel limits w place s n Nothing (slots g)) z (along-none pixel limits w place s n);
       }
 
-  module _ (h : length w < 2 ^ 64) {t : Bool} (e : t ≡ insideBuffer (words (length w)) s n) (y : not t ≡ false) where
-    inside-is : insideBuffer (words (length w)) s n ≡ true
+  module _ (h : length w < 2 ^ 64) {t : Bool} (e : t ≡ liesIn (words (length w)) s (slotsLength n)) (y : not t ≡ false) where
+    inside-is : liesIn (words (length w)) s (slotsLength n) ≡ true
     inside-is = sym e ∙ not-false t y
 
     reach : s .0 + n .0 ≤ length w / 2
-    unfolding insideBuffer
+    unfolding liesIn
     reach = leb-true (s .0 + n .0) (length w / 2) inside-is
 
     module _ {count : Count} {at : Quadwords} {left : Slots} (a : Going count at left) where
@@ -82,7 +82,7 @@ module _ (pixel : Bool) (limits : Limits) (w : List ℕ) (place s : Quadwords) (
 
           -- a group that breaks a rule is the clause's answer
           pub going-broken :
-              (kind : Kind) (push : Bool) {r : Rule} {behind passed slot : Slots} {v : Verdict} → pixel ≡ isPixel kind
+              (kind : Kind) (push : Bool) {r : ℕ} {behind passed slot : Slots} {v : Verdict} → pixel ≡ isPixel kind
               → step ≡ Broken r behind → passed ≡ slotsLeft n left → slot ≡ slotsIn64 (slotBehind passed behind)
               → v ≡ Refused r (Quadword place) slot → v ≡ firstBroken (clauseChecks kind push limits w place s n)
           going-broken kind push {r = r} {behind = behind} {passed = passed} {slot = slot} p q k d j =

@@ -11,15 +11,16 @@ use native.Mathlib.Numerals.{add-one}
 use Rattle.units.specs.declared.Quadwords.{Quadwords}
 use Rattle.units.specs.declared.Slots.{Slots}
 use Rattle.units.specs.declared.Words.{Words}
-use Rattle.units.specs.Units.{slots, wordsIn64, capped, lowWord, lowAt, highAt, isSlotBelow}
-use Rattle.bits.specs.Fields.{fieldOf}
+use Rattle.units.specs.Units.{slots, lowWord, lowAt, highAt, isSlotBelow}
+use Rattle.units.specs.Code.{wordsIn64, capped}
+use Rattle.formats.specs.Fields.{_of_, «LAST»}
 use Rattle.grants.specs.declared.Limits.{Limits}
 use Rattle.groups.specs.declared.Seen.{Seen}
-use Rattle.groups.specs.Seen.{noneSeen, nextSeen, seenOf}
+use Rattle.groups.specs.Code.{noneSeen, nextSeen, seenOf}
 use Rattle.groups.proofs.OfGroup.{seen-none, seen-next}
 use Rattle.clauses.specs.declared.Group.{Group}
 use Rattle.clauses.specs.Clause.{lowOf, highOf, isLast, sizeFrom, sizeOf, spanOf, badShape}
-use Rattle.clauses.specs.Read.{groupOf, noGroup, Readable}
+use Rattle.clauses.specs.CodeRead.{groupOf, noGroup, Readable}
 
 -- ---- where a group's words are
 
@@ -164,10 +165,10 @@ module _ (w : List ℕ) (at : Quadwords) (left : Slots) where
             ∙ seen-next limits (lowOf w at) (highOf w at) j
             ∙ ap (seenOf limits (lowOf w at) (highOf w at)) (sym (add-one j))
 
-        module _ {last : ℕ} (f : last ≡ fieldOf low 31 1) where
+        module _ {last : ℕ} (f : last ≡ «LAST» of low) where
           is-last : (b : Bool) → eqb last 1 ≡ b → isLast (lowOf w at j) ≡ b
           unfolding isLast
-          is-last b h = (λ i. eqb (fieldOf (sym p i) 31 1) 1) ∙ ap (λ (n : ℕ). eqb n 1) (sym f) ∙ h
+          is-last b h = (λ i. eqb («LAST» of (sym p i)) 1) ∙ ap (λ (n : ℕ). eqb n 1) (sym f) ∙ h
 
           pub reading-last : last ≡ 1 → record { size = slots (j + 1); seen = after } ≡ groupOf limits w at left
           unfolding groupOf

@@ -7,28 +7,30 @@ use mathlib.Core.List.{List}
 use native.Mathlib.Omega.{arith}
 use Rattle.units.specs.declared.Quadwords.{Quadwords}
 use Rattle.units.specs.declared.Slots.{Slots}
-use Rattle.units.specs.Units.{slots, slotsIn64, slotBehind, isSlotBelow}
+use Rattle.units.specs.Units.{slots, slotBehind, isSlotBelow}
+use Rattle.units.specs.Code.{slotsIn64}
 use Rattle.units.proofs.OfUnits.{capped-exact}
-use Rattle.bits.specs.Fields.{fieldOf}
+use Rattle.formats.specs.Fields.{_of_, «BANK_SWIZZLE», «DST_CHAN», «LAST»}
 use Rattle.opcodes.specs.declared.alu.Class.{Class}
 use Rattle.opcodes.specs.Alu.{isTaken}
+use Rattle.opcodes.specs.declared.alu.Issue.the-variants.{Predicate}
 use Rattle.grants.specs.declared.Limits.{Limits}
 use Rattle.grants.specs.Grants.{allGranted}
 use Rattle.instructions.specs.Instruction.{classOf, badField, hasRelative, literals, named}
-use Rattle.screens.specs.Gaps.{startsOf, widthsOf, brokenBy}
+use Rattle.screens.specs.Code.{startsOf, widthsOf, brokenBy}
 use Rattle.screens.proofs.OfGaps.{unbroken-field, unbroken-grants}
 use Rattle.groups.specs.declared.First.the-variants.{Nowhere}
 use Rattle.groups.specs.declared.GroupFault.the-variants.{Clean}
 use Rattle.groups.specs.declared.Issues.{Issues}
 use Rattle.groups.specs.declared.Seen.{Seen}
-use Rattle.groups.specs.Group.{Taken, unitFor, badUnit, occupied, isUneven, setters}
-use Rattle.groups.specs.Seen.{countOf, nextIssues, issuesOf, noneSeen, nextSeen, seenOf, badIssues, faultOf}
-use Rattle.groups.proofs.OfSeen.{not-here, next-seen, breaks-none}
+use Rattle.groups.specs.Group.{issued}
+use Rattle.groups.specs.Code.{Taken, unitFor, badUnit, occupied, isUneven, countOf, nextIssues, issuesOf, noneSeen, nextSeen, seenOf, badIssues, faultOf}
+use Rattle.groups.proofs.OfCode.{not-here, next-seen, breaks-none}
 use Rattle.clauses.specs.declared.screen.Glance.{Glance}
 use Rattle.clauses.specs.declared.Group.{Group}
 use Rattle.clauses.specs.Clause.{lowOf, highOf, sizeOf, spanOf}
-use Rattle.clauses.specs.Read.{groupOf, endsClause}
-use Rattle.clauses.specs.Screen.{isWrong, Passes, ScreenedBy, Closes}
+use Rattle.clauses.specs.CodeRead.{groupOf, endsClause}
+use Rattle.clauses.specs.CodeScreen.{isWrong, Passes, ScreenedBy, Closes}
 use Rattle.clauses.proofs.OfRead.{Reading, reading-none, reading-last, reading-next}
 
 -- ---- one instruction's tests
@@ -39,16 +41,16 @@ module _ (starts widths : List ℕ) (t : Taken) (k : Class) (u lo hi : ℕ) wher
   wrong-alone h = rw h
 
   pub wrong-there :
-      {taken bad : Bool} {swizzle : ℕ} → brokenBy starts widths lo hi ≡ false → taken ≡ isTaken k → swizzle ≡ fieldOf hi 18 3
+      {taken bad : Bool} {swizzle : ℕ} → brokenBy starts widths lo hi ≡ false → taken ≡ isTaken k → swizzle ≡ «BANK_SWIZZLE» of hi
       → bad ≡ badUnit t u swizzle → (not taken || bad) ≡ isWrong starts widths t k u lo hi
   unfolding isWrong
   wrong-there h e s f = (λ i. not (e i) || (f ∙ (λ j. badUnit t u (s j))) i) ∙ rw h
 
   -- none of them: rules 12 and 15, 11, 13
   right : isWrong starts widths t k u lo hi ≡ false
-      → (brokenBy starts widths lo hi ≡ false) × ((not (isTaken k) ≡ false) × (badUnit t u (fieldOf hi 18 3) ≡ false))
+      → (brokenBy starts widths lo hi ≡ false) × ((not (isTaken k) ≡ false) × (badUnit t u («BANK_SWIZZLE» of hi) ≡ false))
   unfolding isWrong
-  right h = by (brokenBy starts widths lo hi) (not (isTaken k)) (badUnit t u (fieldOf hi 18 3)) h
+  right h = by (brokenBy starts widths lo hi) (not (isTaken k)) (badUnit t u («BANK_SWIZZLE» of hi)) h
     where
       by : (a b d : Bool) → cond a true (b || d) ≡ false → (a ≡ false) × ((b ≡ false) × (d ≡ false))
       by false false d e = (refl, (refl, e))
@@ -63,14 +65,12 @@ clearSeen n t i =
     record { literals = n; numbers = Nowhere; fields = Nowhere; units = Nowhere; grants = Nowhere; taken = t; issues = i }
 
 -- one instruction more
-module _ (limits : Limits) (j : Slots) (first lo hi n : ℕ) (t : Taken) (i : Issues) {k : Class} {u : ℕ} {uneven : Bool}
-    (class-is : k ≡ classOf hi) (unit-is : u ≡ unitFor t (k .unit) (fieldOf hi 29 2)) (uneven-is : uneven ≡ isUneven (j .0) u first hi)
-    (h : isWrong (startsOf limits) (widthsOf limits) t k u lo hi ≡ false) where
+module _ (limits : Limits) (j : Slots) (first lo hi n : ℕ) (t : Taken) (i : Issues) {k : Class} {u : ℕ} (class-is : k ≡ classOf hi)
+    (unit-is : u ≡ unitFor t (k .unit) («DST_CHAN» of hi)) (h : isWrong (startsOf limits) (widthsOf limits) t k u lo hi ≡ false) where
   next-clear :
-      {n' : ℕ} {t' : Taken} {i' : Issues} {relative : Bool} → relative ≡ hasRelative lo hi
-      → i' ≡ nextIssues i (k .issue) relative uneven → n' ≡ max n (literals lo hi) → t' ≡ occupied t u
-      → clearSeen n' t' i' ≡ nextSeen limits j first lo hi (clearSeen n t i)
-  next-clear relative-is issues-is literals-are taken-is =
+      {n' : ℕ} {t' : Taken} {i' : Issues} → i' ≡ nextIssues i (k .issue) (hasRelative lo hi) (isUneven (j .0) u first hi)
+      → n' ≡ max n (literals lo hi) → t' ≡ occupied t u → clearSeen n' t' i' ≡ nextSeen limits j first lo hi (clearSeen n t i)
+  next-clear issues-is literals-are taken-is =
       let r = right (startsOf limits) (widthsOf limits) t k u lo hi h in
       next-seen limits j first lo hi (clearSeen n t i)
       (record {
@@ -79,7 +79,7 @@ module _ (limits : Limits) (j : Slots) (first lo hi n : ℕ) (t : Taken) (i : Is
         unit-is = unit-is;
         swizzle-is = refl;
         bad-is = refl;
-        uneven-is = uneven-is;
+        uneven-is = refl;
         taken-is = refl;
       })
       refl
@@ -87,11 +87,11 @@ module _ (limits : Limits) (j : Slots) (first lo hi n : ℕ) (t : Taken) (i : Is
       (not-here Nowhere j (not (isTaken k)) refl (r .1 .0))
       refl
       (not-here Nowhere j (badField lo hi) refl (unbroken-field limits lo hi (r .0)))
-      (not-here Nowhere j (badUnit t u (fieldOf hi 18 3)) refl (r .1 .1))
+      (not-here Nowhere j (badUnit t u («BANK_SWIZZLE» of hi)) refl (r .1 .1))
       refl
       (not-here Nowhere j (not (allGranted limits (named lo hi))) refl (ap not (unbroken-grants limits lo hi (r .0))))
       taken-is
-      relative-is
+      refl
       issues-is
 
 -- the whole group
@@ -114,7 +114,7 @@ module _ (limits : Limits) (w : List ℕ) (at : Quadwords) (left size : Slots) (
       sym (λ y. faultOf (e y .seen) (e y .size .0) (pixel && endsClause left (span-there y)))
       ∙ sym (breaks-none (clearSeen n t i) (size .0) (pixel && endsClause left (slotBehind size (slots n))) refl refl refl refl (d .keeps) refl)
 
-  counted-there : x .setters ≡ countOf (setters (highOf w at) (sizeOf w at left))
+  counted-there : x .setters ≡ countOf (issued Predicate (highOf w at) (sizeOf w at left))
   unfolding groupOf seenOf issuesOf
   counted-there = d .counts ∙ ap (λ (y : Group). y .seen .issues .setters) e
 
@@ -143,16 +143,16 @@ module _ (w : List ℕ) (at : Quadwords) (left : Slots) where
 
     module _ {first n : ℕ} {t : Taken} {i : Issues} {j : ℕ} (r : Screening starts widths first n t i j) (l : j < 5) (m : j < left .0)
         {lo hi : ℕ} (p : lo ≡ lowOf w at j) (q : hi ≡ highOf w at j) {k : Class} {u n' : ℕ} {t' : Taken} {i' : Issues}
-        {uneven relative wrong : Bool} (class-is : k ≡ classOf hi) (unit-is : u ≡ unitFor t (k .unit) (fieldOf hi 29 2))
-        (wrong-is : wrong ≡ isWrong starts widths t k u lo hi) (h : wrong ≡ false) (relative-is : relative ≡ hasRelative lo hi)
-        (uneven-is : uneven ≡ isUneven j u first hi) (issues-is : i' ≡ nextIssues i (k .issue) relative uneven)
-        (literals-are : n' ≡ max n (literals lo hi)) (taken-is : t' ≡ occupied t u) {last : ℕ} (f : last ≡ fieldOf lo 31 1) where
+        {wrong : Bool} (class-is : k ≡ classOf hi) (unit-is : u ≡ unitFor t (k .unit) («DST_CHAN» of hi))
+        (wrong-is : wrong ≡ isWrong starts widths t k u lo hi) (h : wrong ≡ false)
+        (issues-is : i' ≡ nextIssues i (k .issue) (hasRelative lo hi) (isUneven j u first hi))
+        (literals-are : n' ≡ max n (literals lo hi)) (taken-is : t' ≡ occupied t u) {last : ℕ} (f : last ≡ «LAST» of lo) where
       after :
           (limits : Limits) → starts ≡ startsOf limits → widths ≡ widthsOf limits
           → clearSeen n' t' i' ≡ nextSeen limits (slots j) first lo hi (clearSeen n t i)
       after limits a b =
-          next-clear limits (slots j) first lo hi n t i class-is unit-is uneven-is
-          ((λ x. isWrong (sym a x) (sym b x) t k u lo hi) ∙ sym wrong-is ∙ h) relative-is issues-is literals-are taken-is
+          next-clear limits (slots j) first lo hi n t i class-is unit-is
+          ((λ x. isWrong (sym a x) (sym b x) t k u lo hi) ∙ sym wrong-is ∙ h) issues-is literals-are taken-is
 
       pub screening-next : (last ≡ 1 → ⊥) → Screening starts widths first n' t' i' (j + 1)
       screening-next g =

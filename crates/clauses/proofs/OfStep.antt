@@ -1,45 +1,45 @@
 -- What a group comes to, from a glance or from all that was read of it, and what that says of the clause. Assumes nothing.
 use Prim.Native.Nat.{ℕ, _+_, _-_, _≤_, _<_, _^_}
 use mathlib.Core.Path.{_≡_, refl, sym, ap, _∙_, subst}
-use mathlib.Core.Bool.{Bool, true, false, cond, not, _&&_}
+use mathlib.Core.Bool.{Bool, true, false, cond, not, _&&_, false≢true, true≢false}
 use mathlib.Core.List.{List}
 use lib.Dec.{eqb, ltb}
 use borrow.Author.Tests.{eq-eqb, ne-eqb, ltb-true, ltb-false, not-true, not-false}
 use native.Mathlib.Omega.{arith}
 use Rattle.units.specs.declared.Quadwords.{Quadwords}
 use Rattle.units.specs.declared.Slots.{Slots}
-use Rattle.units.specs.Units.{slots, slotsIn64, slotQuadword, slotBehind, slotsLeft, isSlotBelow}
+use Rattle.units.specs.Units.{slots, slotQuadword, slotBehind, slotsLeft, isSlotBelow}
+use Rattle.units.specs.Code.{slotsIn64}
 use Rattle.units.proofs.OfUnits.{capped-exact}
-use Rattle.checks.specs.declared.Rule.{Rule}
-use Rattle.checks.specs.declared.Rule.the-variants.{GroupShape}
 use Rattle.checks.specs.declared.Place.the-variants.{Quadword}
 use Rattle.checks.specs.declared.Verdict.{Verdict}
 use Rattle.checks.specs.declared.Verdict.the-variants.{Accepted, Refused}
 use Rattle.checks.specs.Checks.{firstBroken}
+use Rattle.opcodes.specs.declared.alu.Issue.the-variants.{Predicate}
 use Rattle.grants.specs.declared.Limits.{Limits}
 use Rattle.groups.specs.declared.counts.Count.{Count}
 use Rattle.groups.specs.declared.counts.Count.the-variants.{Nothing}
 use Rattle.groups.specs.declared.GroupFault.{GroupFault}
 use Rattle.groups.specs.declared.GroupFault.the-variants.{Clean}
 use Rattle.groups.specs.declared.GroupFault.the-variants as fault
-use Rattle.groups.specs.Group.{setters}
-use Rattle.groups.specs.Seen.{countOf, together, issuesOf, seenOf, faultOf}
+use Rattle.groups.specs.Group.{issued}
+use Rattle.groups.specs.Code.{countOf, together, issuesOf, seenOf, faultOf}
 use Rattle.groups.proofs.OfGroup.{FaultIn, fault-in}
 use Rattle.clauses.specs.declared.screen.Glance.{Glance}
 use Rattle.clauses.specs.declared.Group.{Group}
 use Rattle.clauses.specs.declared.Step.{Step}
 use Rattle.clauses.specs.declared.Step.the-variants.{Passed, Broken}
 use Rattle.clauses.specs.Clause.{lowOf, highOf, sizeOf, spanOf, badShape, sizeAt, spanAt, groupsOf, mayKill, checksOf}
-use Rattle.clauses.specs.Read.{groupOf, endsClause, stepBy, stepOf}
-use Rattle.clauses.specs.Screen.{Passes}
+use Rattle.clauses.specs.CodeRead.{groupOf, endsClause, stepBy, stepOf}
+use Rattle.clauses.specs.CodeScreen.{Passes}
 use Rattle.clauses.proofs.OfRead.{size-few, bad-size, bad-span, good, shaped}
 use Rattle.clauses.proofs.OfClause.{Along, along-bad, along-fault, along-next}
 
 -- ---- the parts of a step
 
-abbrev isPassed : Step → ℕ
-isPassed (Passed s c) = 1
-isPassed (Broken r b) = 0
+abbrev isPassed : Step → Bool
+isPassed (Passed s c) = true
+isPassed (Broken r b) = false
 
 abbrev spanIn : Step → Slots
 spanIn (Passed s c) = s
@@ -59,9 +59,9 @@ module _ (limits : Limits) (pixel : Bool) (w : List ℕ) (at : Quadwords) (left 
       faultOf (seenOf limits (lowOf w at) (highOf w at) (sizeOf w at left)) (sizeOf w at left) (pixel && endsClause left (spanOf w at left))
 
   abbrev count-of : Count
-  count-of = countOf (setters (highOf w at) (sizeOf w at left))
+  count-of = countOf (issued Predicate (highOf w at) (sizeOf w at left))
 
-  broken-shape : badShape w at left ≡ true → Broken GroupShape (slots 0) ≡ stepOf limits pixel w at left
+  broken-shape : badShape w at left ≡ true → Broken 10 (slots 0) ≡ stepOf limits pixel w at left
   unfolding stepOf
   broken-shape h = rw h
 
@@ -101,12 +101,12 @@ module _ (limits : Limits) (pixel : Bool) (w : List ℕ) (at : Quadwords) (left 
           ∙ ap slots (capped-exact (group .size .0 + group .seen .literals) (omega (arith, few, size-is, size-few w at left .0)))
           ∙ span-is
 
-      pub step-no-size : not t ≡ true → Broken GroupShape (slots 0) ≡ stepOf limits pixel w at left
+      pub step-no-size : not t ≡ true → Broken 10 (slots 0) ≡ stepOf limits pixel w at left
       step-no-size h =
           broken-shape (bad-size w at left (omega (arith, size-is, ltb-false 0 (group .size .0) (sym m ∙ not-true t h))))
 
       module _ (h : not t ≡ false) {u : Bool} (d : u ≡ isSlotBelow left span) where
-        pub step-too-long : u ≡ true → Broken GroupShape (slots 0) ≡ stepOf limits pixel w at left
+        pub step-too-long : u ≡ true → Broken 10 (slots 0) ≡ stepOf limits pixel w at left
         step-too-long f =
             broken-shape
             (bad-span w at left (ltb-true (left .0) (spanOf w at left .0) (ap (isSlotBelow left) (sym span-exact) ∙ sym d ∙ f)))
@@ -121,7 +121,7 @@ module _ (limits : Limits) (pixel : Bool) (w : List ℕ) (at : Quadwords) (left 
               (y ∙ (λ i. faultOf (e i .seen) (e i .size .0) (pixel && not ((g ∙ (λ j. isSlotBelow (span-exact j) left)) i))))
               span-exact count-is
 
-          pub step-broken : {r : Rule} {b : Slots} → x ≡ fault.Broken r b → Broken r b ≡ stepOf limits pixel w at left
+          pub step-broken : {r : ℕ} {b : Slots} → x ≡ fault.Broken r b → Broken r b ≡ stepOf limits pixel w at left
           step-broken q = ap (λ (z : GroupFault). stepBy z span (group .seen .issues .setters)) (sym q) ∙ read-fault
 
           pub step-passed : x ≡ Clean → Passed span (group .seen .issues .setters) ≡ stepOf limits pixel w at left
@@ -137,16 +137,16 @@ module _ (limits : Limits) (pixel : Bool) (w : List ℕ) (at : Quadwords) (left 
       where
         by :
             (t : Bool) → badShape w at left ≡ t → (y : GroupFault)
-            → cond t (Broken GroupShape (slots 0)) (stepBy y (spanOf w at left) count-of) ≡ Passed s c → (0 < s .0) × (s .0 ≤ left .0)
-        by true f y h = let z : _≡_ {A = ℕ} 0 1 = ap isPassed h in absurd (omega (arith, z))
-        by false f (fault.Broken r b) h = let z : _≡_ {A = ℕ} 0 1 = ap isPassed h in absurd (omega (arith, z))
+            → cond t (Broken 10 (slots 0)) (stepBy y (spanOf w at left) count-of) ≡ Passed s c → (0 < s .0) × (s .0 ≤ left .0)
+        by true f y h = absurd (false≢true (ap isPassed h))
+        by false f (fault.Broken r b) h = absurd (false≢true (ap isPassed h))
         by false f Clean h =
             let z : spanOf w at left .0 ≡ s .0 = ap (λ (k : Step). spanIn k .0) h in
             let g = shaped w at left f in
             (omega (arith, z, g .0), omega (arith, z, g .1))
 
     -- a fault shows among them
-    pub broken-few : {r : Rule} {b : Slots} → x ≡ Broken r b → b .0 ≤ left .0
+    pub broken-few : {r : ℕ} {b : Slots} → x ≡ Broken r b → b .0 ≤ left .0
     unfolding stepOf
     broken-few {r = r} {b = b} q =
         by (badShape w at left) fault-of
@@ -154,11 +154,11 @@ module _ (limits : Limits) (pixel : Bool) (w : List ℕ) (at : Quadwords) (left 
       where
         by :
             (t : Bool) (y : GroupFault) → FaultIn (sizeOf w at left) y
-            → cond t (Broken GroupShape (slots 0)) (stepBy y (spanOf w at left) count-of) ≡ Broken r b → b .0 ≤ left .0
+            → cond t (Broken 10 (slots 0)) (stepBy y (spanOf w at left) count-of) ≡ Broken r b → b .0 ≤ left .0
         by true y f h = let z : 0 ≡ b .0 = ap (λ (k : Step). behindIn k .0) h in omega (arith, z)
         by false (fault.Broken r' b') f h =
             let z : b' .0 ≡ b .0 = ap (λ (k : Step). behindIn k .0) h in omega (arith, z, f, size-few w at left .1)
-        by false Clean f h = let z : _≡_ {A = ℕ} 1 0 = ap isPassed h in absurd (omega (arith, z))
+        by false Clean f h = absurd (true≢false (ap isPassed h))
 
 -- ---- the clause
 
@@ -190,21 +190,21 @@ module _ (pixel : Bool) (limits : Limits) (w : List ℕ) (place s : Quadwords) (
 
   -- a group that breaks a rule is the clause's answer
   pub along-broken :
-      {r : Rule} {b : Slots} → x ≡ Broken r b
+      {r : ℕ} {b : Slots} → x ≡ Broken r b
       → firstBroken (checksOf pixel limits w place s n (groupsOf w s n)) ≡ Refused r (Quadword place) (slotBehind g b)
   unfolding stepOf
   along-broken {r = r} {b = b} q = by (badShape w (slotQuadword s g) (slotsLeft n g)) refl fault-here refl (sym e ∙ q)
     where
       by :
           (t : Bool) → badShape w (slotQuadword s g) (slotsLeft n g) ≡ t → (y : GroupFault) → fault-here ≡ y
-          → cond t (Broken GroupShape (slots 0)) (stepBy y (spanAt w s n g) (count-of limits pixel w (slotQuadword s g) (slotsLeft n g))) ≡ Broken r b
+          → cond t (Broken 10 (slots 0)) (stepBy y (spanAt w s n g) (count-of limits pixel w (slotQuadword s g) (slotsLeft n g))) ≡ Broken r b
           → firstBroken (checksOf pixel limits w place s n (groupsOf w s n)) ≡ Refused r (Quadword place) (slotBehind g b)
       by true f y k h =
           let z : g .0 ≡ g .0 + 0 = omega arith in
           along-bad pixel limits w place s n a l f
-          ∙ ap (λ (m : ℕ). Refused GroupShape (Quadword place) (slots m)) z
+          ∙ ap (λ (m : ℕ). Refused 10 (Quadword place) (slots m)) z
           ∙ ap verdict-of h
-      by false f Clean k h = let z : _≡_ {A = ℕ} 1 0 = ap isPassed h in absurd (omega (arith, z))
+      by false f Clean k h = absurd (true≢false (ap isPassed h))
       by false f (fault.Broken r' b') k h =
           along-fault pixel limits w place s n a l f (sym k ∙ fault-is f) refl
           ∙ ap verdict-of h
@@ -219,10 +219,10 @@ module _ (pixel : Bool) (limits : Limits) (w : List ℕ) (place s : Quadwords) (
     where
       by :
           (b : Bool) → badShape w (slotQuadword s g) (slotsLeft n g) ≡ b → (y : GroupFault) → fault-here ≡ y
-          → cond b (Broken GroupShape (slots 0)) (stepBy y (spanAt w s n g) (count-of limits pixel w (slotQuadword s g) (slotsLeft n g))) ≡ Passed k own
+          → cond b (Broken 10 (slots 0)) (stepBy y (spanAt w s n g) (count-of limits pixel w (slotQuadword s g) (slotsLeft n g))) ≡ Passed k own
           → Along pixel limits w place s n more next
-      by true f y d h = let z : _≡_ {A = ℕ} 0 1 = ap isPassed h in absurd (omega (arith, z))
-      by false f (fault.Broken r' b') d h = let z : _≡_ {A = ℕ} 0 1 = ap isPassed h in absurd (omega (arith, z))
+      by true f y d h = absurd (false≢true (ap isPassed h))
+      by false f (fault.Broken r' b') d h = absurd (false≢true (ap isPassed h))
       by false f Clean d h =
           subst (Along pixel limits w place s n more) (ap (λ (v : Step). slotBehind g (spanIn v)) h ∙ sym p)
           (along-next pixel limits w place s n a l f (sym d ∙ fault-is f) refl (sym (ap countIn h)) t)

@@ -8,18 +8,17 @@ use lib.Dec.{eqb}
 use lib.ListN.{length}
 use Rattle.units.specs.declared.Quadwords.{Quadwords}
 use Rattle.units.specs.declared.Slots.{Slots}
-use Rattle.units.specs.declared.Words.{Words}
-use Rattle.units.specs.Units.{slots, words, lowAt, highAt, slotQuadword, slotBehind, slotsLeft, slotsLength, rangeEnd, wholeQuadwords, isAtMost, isSlotBelow}
-use Rattle.bits.specs.Fields.{fieldOf}
-use Rattle.checks.specs.declared.Rule.the-variants.{GroupShape, IssueLimit}
+use Rattle.units.specs.Units.{slots, words, lowAt, highAt, slotQuadword, slotBehind, slotsLeft, slotsLength, liesIn, isSlotBelow}
+use Rattle.formats.specs.Fields.{_of_, «LAST»}
 use Rattle.checks.specs.declared.Place.the-variants.{Quadword}
 use Rattle.checks.specs.Checks.{Check, check}
 use Rattle.card.specs.declared.Kind.{Kind}
 use Rattle.card.specs.declared.Kind.the-variants.{Pixel, Vertex, Geometry}
+use Rattle.opcodes.specs.declared.alu.Issue.the-variants.{Predicate}
 use Rattle.grants.specs.declared.Limits.{Limits}
 use Rattle.grants.specs.Grants.{Name}
 use Rattle.instructions.specs.Instruction.{named}
-use Rattle.groups.specs.Group.{literalsBelow, setters, ruleChecks}
+use Rattle.groups.specs.Group.{literalsBelow, issued, ruleChecks}
 
 -- ---- one group, whose first slot is quadword q, with so many slots left in its clause
 
@@ -30,9 +29,8 @@ lowOf w q j = lowAt w (slotQuadword q (slots j) .0)
 unfoldable pub highOf : List ℕ → Quadwords → ℕ → ℕ
 highOf w q j = highAt w (slotQuadword q (slots j) .0)
 
--- LAST
 unfoldable pub isLast : ℕ → Bool
-isLast l = eqb (fieldOf l 31 1) 1
+isLast l = eqb («LAST» of l) 1
 
 -- how many instructions the group has: up to the first with LAST set, five at most. j are passed and k more are allowed; 0 where none
 -- of those in the clause has LAST
@@ -69,9 +67,7 @@ unfoldable pub groupsFrom : List ℕ → Quadwords → Slots → ℕ → Slots �
 groupsFrom w s n zero g = []
 groupsFrom w s n (suc k) g =
     cond (isSlotBelow g n)
-    (g
-    ∷ cond (badShape w (slotQuadword s g) (slotsLeft n g)) [] (groupsFrom w s n k (slotBehind g (spanAt w s n g))))
-    []
+    (g ∷ cond (badShape w (slotQuadword s g) (slotsLeft n g)) [] (groupsFrom w s n k (slotBehind g (spanAt w s n g)))) []
 
 unfoldable pub groupsOf : List ℕ → Quadwords → Slots → List Slots
 groupsOf w s n = groupsFrom w s n (n .0) (slots 0)
@@ -90,7 +86,7 @@ mayKill pixel n end = pixel && eqb (end .0) (n .0)
 -- group by group: 10, then 11 to 15
 unfoldable pub groupChecks : Bool → Limits → List ℕ → Quadwords → Quadwords → Slots → Slots → List Check
 groupChecks pixel limits w place s n g =
-    check GroupShape (Quadword place) g (badShape w (slotQuadword s g) (slotsLeft n g))
+    check 10 (Quadword place) g (badShape w (slotQuadword s g) (slotsLeft n g))
     ∷ ruleChecks place g limits (mayKill pixel n (slotBehind g (spanAt w s n g))) (lowOf w (slotQuadword s g)) (highOf w (slotQuadword s g)) (sizeAt w s n g)
 
 unfoldable pub checksOf : Bool → Limits → List ℕ → Quadwords → Quadwords → Slots → List Slots → List Check
@@ -101,23 +97,17 @@ checksOf pixel limits w place s n (g ∷ gs) =
 -- 14, after all groups: PUSH_BEFORE holds exactly one predicate setter (slot 0 if not)
 unfoldable pub settersIn : List ℕ → Quadwords → Slots → List Slots → ℕ
 settersIn w s n [] = 0
-settersIn w s n (g ∷ gs) = setters (highOf w (slotQuadword s g)) (sizeAt w s n g) + settersIn w s n gs
+settersIn w s n (g ∷ gs) = issued Predicate (highOf w (slotQuadword s g)) (sizeAt w s n g) + settersIn w s n gs
 
 unfoldable pub badPush : Bool → ℕ → Bool
 badPush pushBefore count = pushBefore && not (eqb count 1)
 
--- the clause of n slots at quadword s lies in a buffer of so many words
-unfoldable pub insideBuffer : Words → Quadwords → Slots → Bool
-insideBuffer buffer s n = isAtMost (rangeEnd s (slotsLength n)) (wholeQuadwords buffer)
-
 -- nothing is asked of a clause that does not lie in the buffer: rule 6 refuses it before
 unfoldable pub clauseChecks : Kind → Bool → Limits → List ℕ → Quadwords → Quadwords → Slots → List Check
 clauseChecks kind pushBefore limits w place s n =
-    cond (insideBuffer (words (length w)) s n)
+    cond (liesIn (words (length w)) s (slotsLength n))
     (checksOf (isPixel kind) limits w place s n (groupsOf w s n)
-    ++ (check IssueLimit (Quadword place) (slots 0) (badPush pushBefore (settersIn w s n (groupsOf w s n)))
-    ∷ []))
-    []
+    ++ (check 14 (Quadword place) (slots 0) (badPush pushBefore (settersIn w s n (groupsOf w s n))) ∷ [])) []
 
 -- ---- what rule 10 comes to: no instruction of an accepted clause stands outside its groups
 

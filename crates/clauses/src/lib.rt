@@ -1,9 +1,9 @@
 // Rules 10 to 15 on an ALU clause, group by group: document 01, "Groups of ALU slots".
-use bits::field;
+use bits::read;
 use card::Kind;
 use checks::Place;
-use checks::Rule;
 use checks::Verdict;
+use formats::fields;
 use grants::Limits;
 use groups::GroupFault;
 use groups::Seen;
@@ -15,16 +15,16 @@ ghost use mathlib.Core.Path.{_≡_};
 ghost use Rattle.checks.specs.Checks.{firstBroken};
 ghost use Rattle.checks.specs.declared.Place.the-variants.{Quadword};
 ghost use Rattle.checks.specs.declared.Verdict.the-variants.{Refused};
-ghost use Rattle.screens.specs.Gaps.{startsOf, widthsOf};
-ghost use Rattle.clauses.specs.Clause.{isPixel, insideBuffer, clauseChecks};
-ghost use Rattle.clauses.specs.Read.{stepOf, groupOf, noGroup, pushVerdict, Readable};
+ghost use Rattle.screens.specs.Code.{startsOf, widthsOf};
+ghost use Rattle.clauses.specs.Clause.{isPixel, clauseChecks};
+ghost use Rattle.clauses.specs.CodeRead.{stepOf, groupOf, noGroup, pushVerdict, Readable};
 
 mod screen;
 
 // What a group comes to: the slots that it takes and the setters in it; or what it breaks, and how many slots behind its first.
 enum Step {
     Passed(Slots, Count),
-    Broken(Rule, Slots),
+    Broken(u8, Slots),
 }
 
 // A group as it was read: how many instructions it has, 0 where none of five or of those left in the clause has LAST set.
@@ -46,7 +46,8 @@ pub fn alu_clause(
 ) -> Verdict
     ensures { λ r. ⌜ r ≡ firstBroken (clauseChecks kind «push_before» limits (now (words .entry)) place start slots) ⌝ }
 {
-    if !is_inside(Words(words.len()), start, slots) {
+    // Where the clause does not lie in the buffer, rule 6 has refused it.
+    if !units::slots_lie_in(Words(words.len()), start, slots) {
         return Verdict::Accepted;
     }
     let pixel = is_pixel(kind);
@@ -106,10 +107,10 @@ fn judge_group(words: &[u32], at: Quadwords, left: Slots, limits: Limits, pixel:
     let size = group.size;
     let span = units::slot_behind(size, Slots(group.seen.literals as usize));
     if !units::is_slot_below(Slots(0), size) {
-        return Step::Broken(Rule::GroupShape, Slots(0));
+        return Step::Broken(10, Slots(0));
     }
     if units::is_slot_below(left, span) {
-        return Step::Broken(Rule::GroupShape, Slots(0));
+        return Step::Broken(10, Slots(0));
     }
     let ends = !units::is_slot_below(span, left);
     let fault = groups::group_fault(group.seen, size, pixel & ends);
@@ -142,7 +143,7 @@ fn read_group(words: &[u32], at: Quadwords, left: Slots, limits: Limits) -> Grou
         let high = words[first + 2 * j + 1];
         seen = groups::read_instruction(seen, limits, Slots(j), first_high, low, high);
         j += 1;
-        if field(low, 31, 1) == 1 {
+        if read(low, fields::LAST) == 1 {
             return Group {
                 size: Slots(j),
                 seen,
@@ -161,7 +162,7 @@ fn no_group() -> Group
     }
 }
 
-fn refused(rule: Rule, place: Quadwords, slot: Slots) -> Verdict
+fn refused(rule: u8, place: Quadwords, slot: Slots) -> Verdict
     ensures { λ r. ⌜ r ≡ Refused rule (Quadword place) slot ⌝ }
 {
     Verdict::Refused {
@@ -176,7 +177,7 @@ fn push_verdict(push_before: bool, setters: Count, place: Quadwords) -> Verdict
     ensures { λ r. ⌜ r ≡ pushVerdict «push_before» setters place ⌝ }
 {
     if push_before & !groups::counts::is_one(setters) {
-        return refused(Rule::IssueLimit, place, Slots(0));
+        return refused(14, place, Slots(0));
     }
     Verdict::Accepted
 }
@@ -189,15 +190,4 @@ fn is_pixel(kind: Kind) -> bool
         Kind::Vertex => false,
         Kind::Geometry => false,
     }
-}
-
-// Whether the clause lies in a buffer of so many words. Where it does not, rule 6 has refused it.
-fn is_inside(buffer: Words, start: Quadwords, slots: Slots) -> bool
-    ensures { λ r. ⌜ r ≡ insideBuffer buffer start slots ⌝ }
-{
-    units::ends_by(
-        start,
-        units::slots_length(slots),
-        units::whole_quadwords(buffer),
-    )
 }

@@ -1,6 +1,7 @@
 // A group at a glance: each instruction is asked whether it breaks anything, and none of it is noted, since an accepted pack breaks
 // nothing. A group that does not pass so is looked at again, by `judge_group`, which tells what it breaks.
-use bits::field;
+use bits::read;
+use formats::fields;
 use groups::Issues;
 use groups::alu_units;
 use groups::counts::Count;
@@ -10,11 +11,12 @@ use units::Quadwords;
 use units::Slots;
 use units::Words;
 ghost use mathlib.Core.Path.{_≡_};
-ghost use Prim.Native.Nat.{_≤_, _<_, min};
-ghost use Rattle.bits.specs.Fields.{fieldOf};
-ghost use Rattle.groups.specs.Group.{unitFor};
-ghost use Rattle.clauses.specs.Read.{Readable};
-ghost use Rattle.clauses.specs.Screen.{ScreenedBy, Closes, isWrong};
+ghost use Prim.Native.Nat.{_≤_, _<_};
+ghost use Rattle.formats.specs.Fields.{_of_, «DST_CHAN»};
+ghost use Rattle.instructions.specs.Instruction.{hasRelative};
+ghost use Rattle.groups.specs.Code.{unitFor, isUneven, nextIssues};
+ghost use Rattle.clauses.specs.CodeRead.{Readable};
+ghost use Rattle.clauses.specs.CodeScreen.{ScreenedBy, Closes, isWrong};
 
 // The slots that a group takes and the setters in it. No slots: it has to be looked at again.
 pub(crate) struct Glance {
@@ -31,19 +33,12 @@ fn again() -> Glance
     }
 }
 
-// The instructions of a group that may be read: five, or those left in its clause.
-fn most_instructions(left: Slots) -> usize
-    ensures { λ r. ⌜ r ≡ min (left .0) 5 ⌝ }
-{
-    if left.0 < 5 { left.0 } else { 5 }
-}
-
 // The unit that an instruction of this class gets.
 fn unit_of(taken: u32, class: Class, high: u32) -> u32
-    ensures { λ r. ⌜ r ≡ unitFor taken (class .unit) (fieldOf high 29 2) ⌝ }
+    ensures { λ r. ⌜ r ≡ unitFor taken (class .unit) («DST_CHAN» of high) ⌝ }
 {
     let unit = class.unit;
-    alu_units::unit_for(taken, unit, field(high, 29, 2))
+    alu_units::unit_for(taken, unit, read(high, fields::DST_CHAN))
 }
 
 // Rules 11, 12, 13 and 15.
@@ -62,10 +57,29 @@ fn is_wrong(
         return true;
     }
     let number = opcodes::alu::is_taken(class);
-    !number | alu_units::is_bad_unit(taken, unit, field(high, 18, 3))
+    !number | alu_units::is_bad_unit(taken, unit, read(high, fields::BANK_SWIZZLE))
 }
 
-// The group whose first slot is quadword `at`, with so many slots left in its clause, by the gaps of the clause's limits.
+// Rule 14's figures with the instruction in slot j, in that unit, too; `first` is the high word of the group's first.
+fn more_issues(
+    issues: Issues,
+    class: Class,
+    j: Slots,
+    unit: u32,
+    first: u32,
+    low: u32,
+    high: u32,
+) -> Issues
+    ensures { λ r. ⌜ r ≡ nextIssues issues (class .issue) (hasRelative low high) (isUneven (j .0) unit first high) ⌝ }
+{
+    let issue = class.issue;
+    let relative = instructions::has_relative(low, high);
+    let uneven = alu_units::is_uneven(j, unit, first, high);
+    groups::next_issues(issues, issue, relative, uneven)
+}
+
+// The group whose first slot is quadword `at`, with so many slots left in its clause, by the gaps of the clause's limits. Its loop is the
+// judge's innermost, so words are counted plainly: instruction j starts 2j words behind the group's first.
 pub(crate) fn screen_group(
     words: &[u32],
     at: Quadwords,
@@ -81,31 +95,27 @@ pub(crate) fn screen_group(
     if !units::is_below(at, units::whole_quadwords(Words(words.len()))) {
         return again();
     }
-    // Words are counted plainly inside a group, whose instruction j starts 2j words behind its first: this loop is the judge's innermost.
     let first = units::low_word(at).0;
     let first_high = words[first + 1];
-    let most = most_instructions(left);
-    let none = groups::none_seen();
+    // The instructions of a group that may be read: five, or those left in its clause.
+    let most = units::smaller(left.0, 5);
     let mut literals = 0;
     let mut taken = 0;
-    let mut issues = none.issues;
+    let mut issues = groups::none_seen().issues;
     let mut j = 0;
     while j < most {
         let low = words[first + 2 * j];
         let high = words[first + 2 * j + 1];
         let class = class_of(high);
-        let issue = class.issue;
         let unit = unit_of(taken, class, high);
         if is_wrong(starts, widths, taken, class, unit, low, high) {
             return again();
         }
-        let relative = instructions::has_relative(low, high);
-        let uneven = alu_units::is_uneven(Slots(j), unit, first_high, high);
-        issues = groups::next_issues(issues, issue, relative, uneven);
+        issues = more_issues(issues, class, Slots(j), unit, first_high, low, high);
         literals = screens::more_literals(literals, low, high);
         taken = alu_units::occupy(taken, unit);
         j += 1;
-        if field(low, 31, 1) == 1 {
+        if read(low, fields::LAST) == 1 {
             return close(issues, Slots(j), literals, left, pixel);
         }
     }

@@ -11,11 +11,13 @@ use native.Mathlib.Omega.{arith}
 use borrow.Author.Tests.{eq-eqb, eqb-true}
 use lib.Dec.{eqb}
 use lib.ListN.{length, getD, take, drop, length-reverse, length-drop, length-append, take-append-drop}
-use lib.Seq.{take-suc, take-at, take-all, take-append-seam, getD-take, drop-drop, drop-append-add}
+use lib.Seq.{take-suc, take-at, take-append-seam, getD-take, drop-drop, drop-append-add}
 use denote.Ref.{RefT}
+use Rattle.laws.proofs.OfLists.{to-the-end}
 use Rattle.units.specs.declared.Words.{Words}
 use Rattle.units.specs.Units.{words}
-use Rattle.compare.specs.Changed.{commonBeginning, commonEnding, olderRest, newerRest, restEnding, changedWords, changedStart, wordPlace, CommonBeginning, CommonEnding}
+use Rattle.compare.specs.Changed.{commonBeginning, commonEnding, olderRest, newerRest, restEnding, changedWords, changedStart, wordPlace}
+use Rattle.compare.specs.Laws.{CommonBeginning, CommonEnding}
 
 -- ---- the common beginning
 
@@ -309,9 +311,6 @@ only-removed kept gone after = none-changed older newer (ending-longest (length 
         }
 
 -- ---- the part as the code takes it, in slices that run from a start to their end
-
-pub to-the-end : (n : ℕ) (l : List ℕ) → take (length l - n) (drop n l) ≡ drop n l
-to-the-end n l = take-all (length l - n) (drop n l) (omega (arith, length-drop n l))
 
 pub part-words : (older newer : List ℕ) (n k : ℕ) → n ≡ commonBeginning older newer → k ≡ commonEnding (take (length older - n) (drop n older)) (take (length newer - n) (drop n newer)) → take (length (take (length newer - n) (drop n newer)) - k) (take (length newer - n) (drop n newer)) ≡ changedWords older newer
 unfolding changedWords restEnding olderRest newerRest

@@ -1,7 +1,6 @@
 -- Two packs side by side: document 01's paragraph of that name. The longest common beginning and ending of two lists of words, and
 -- the part of the newer between them.
-use Prim.Native.Nat.{ℕ, suc, _+_, _*_, _-_, _≤_}
-use mathlib.Core.Path.{_≡_}
+use Prim.Native.Nat.{ℕ, suc, _+_, _*_, _-_}
 use mathlib.Core.Bool.{cond}
 use mathlib.Core.List.{List, [], _∷_, reverse}
 use lib.Dec.{eqb}
@@ -43,17 +42,3 @@ changedStart older newer = words (commonBeginning older newer)
 -- memory from its start on, so that an empty part has its place too
 abbrev pub wordPlace : RefT (List ℕ) → Words → ℕ × ℕ
 wordPlace slice n = (slice .ptr .0, slice .ptr .1 + 4 * n .0)
-
--- ---- what the laws of proofs/OfChanged.antt say of these numbers
-
--- the first n words of two lists are the same
-pub record CommonBeginning (n : ℕ) (xs ys : List ℕ) : Type 0 where
-  pub in-first : n ≤ length xs
-  pub in-second : n ≤ length ys
-  pub same : take n xs ≡ take n ys
-
--- the last n words of two lists are the same
-pub record CommonEnding (n : ℕ) (xs ys : List ℕ) : Type 0 where
-  pub in-first : n ≤ length xs
-  pub in-second : n ≤ length ys
-  pub same : drop (length xs - n) xs ≡ drop (length ys - n) ys

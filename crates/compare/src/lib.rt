@@ -4,8 +4,8 @@
 // beginning, before the longest common ending of what then remains in both." The ending is looked for only behind the beginning,
 // so that no word counts in both.
 ghost use mathlib.Core.Path.{_≡_};
-ghost use Prim.Native.Nat.{min};
-ghost use Rattle.compare.specs.Changed.{commonBeginning, commonEnding, changedWords, changedStart, wordPlace, CommonBeginning, CommonEnding};
+ghost use Rattle.compare.specs.Changed.{commonBeginning, commonEnding, changedWords, changedStart, wordPlace};
+ghost use Rattle.compare.specs.Laws.{CommonBeginning, CommonEnding};
 use units::Words;
 
 // The part of the newer words that changed. Where words were only removed, or nothing changed, it is empty.
@@ -33,7 +33,7 @@ fn common_beginning(older: &[u32], newer: &[u32]) -> usize
     ensures { λ r. ⌜ r ≡ commonBeginning (now (older .entry)) (now (newer .entry)) ⌝ }
     ensures { λ r. ⌜ CommonBeginning r (now (older .entry)) (now (newer .entry)) ⌝ }
 {
-    let most = least(older.len(), newer.len());
+    let most = units::smaller(older.len(), newer.len());
     let mut n = 0;
     while n < most {
         if older[n] != newer[n] {
@@ -49,7 +49,7 @@ fn common_ending(older: &[u32], newer: &[u32]) -> usize
     ensures { λ r. ⌜ r ≡ commonEnding (now (older .entry)) (now (newer .entry)) ⌝ }
     ensures { λ r. ⌜ CommonEnding r (now (older .entry)) (now (newer .entry)) ⌝ }
 {
-    let most = least(older.len(), newer.len());
+    let most = units::smaller(older.len(), newer.len());
     let mut n = 0;
     while n < most {
         if older[older.len() - 1 - n] != newer[newer.len() - 1 - n] {
@@ -58,10 +58,4 @@ fn common_ending(older: &[u32], newer: &[u32]) -> usize
         n += 1;
     }
     most
-}
-
-fn least(a: usize, b: usize) -> usize
-    ensures { λ r. ⌜ r ≡ min a b ⌝ }
-{
-    if a < b { a } else { b }
 }

@@ -4,17 +4,16 @@ use mathlib.Core.Bool.{Bool, true, false, cond, not}
 use mathlib.Core.List.{List, List·Memᴰ}
 use Prim.Native.Nat.{ℕ, _+_, _*_, _/_, _^_, _<_, _≤_}
 use native.Mathlib.Omega.{arith}
-use lib.Dec.{leb}
 use lib.ListN.{length, getD}
-use borrow.Author.Tests.{ltb-true, leb-true, leb-false, le-leb, lt-leb, not-false}
+use borrow.Author.Tests.{ltb-true, leb-true, not-false}
+use Rattle.laws.proofs.OfCases.{impossible}
 use Rattle.units.specs.declared.Quadwords.{Quadwords}
 use Rattle.units.specs.declared.Slots.{Slots}
 use Rattle.units.specs.declared.Words.{Words}
-use Rattle.units.specs.Units.{capped, quadwordsIn64, slotsIn64, wordsIn64, words, slots, lowWord, lowAt, highAt, rangeEnd, fetchesLength, wholeQuadwords, isAtMost, isSlotBelow, fetchSlot, slotBehind, slotQuadword}
+use Rattle.units.specs.Units.{words, slots, lowWord, lowAt, highAt, fetchesLength, liesIn, isSlotBelow, fetchSlot, slotBehind, slotQuadword}
+use Rattle.units.specs.Code.{capped, quadwordsIn64, slotsIn64, wordsIn64}
 use Rattle.units.proofs.OfUnits.{capped-exact}
 use Rattle.bits.specs.Fields.{fieldOf}
-use Rattle.checks.specs.declared.Rule.{Rule}
-use Rattle.checks.specs.declared.Rule.the-variants.{FetchNumber, FetchRegister}
 use Rattle.checks.specs.declared.Place.the-variants.{Quadword}
 use Rattle.checks.specs.declared.Verdict.{Verdict}
 use Rattle.checks.specs.declared.Verdict.the-variants.{Accepted, Refused}
@@ -23,30 +22,19 @@ use Rattle.checks.proofs.OfChecks.{first-clean, rest-clean, below-each}
 use Rattle.grants.specs.declared.Limits.{Limits}
 use Rattle.grants.specs.Grants.{Name, granted, allGranted}
 use Rattle.grants.proofs.OfGrants.{each-granted}
-use Rattle.fetches.specs.declared.FetchKind.{FetchKind}
+use Rattle.opcodes.specs.declared.cf.FetchKind.{FetchKind}
 use Rattle.fetches.specs.declared.Fault.{Fault}
 use Rattle.fetches.specs.declared.Fault.the-variants.{Clean, Broken}
-use Rattle.fetches.specs.Fetches.{badFetch, badRegister, faultOf, word0, word1, word3, namedAt, fetchChecks, insideBuffer, clauseChecks}
+use Rattle.fetches.specs.Fetches.{badFetch, badRegister, word0, word1, word3, namedAt, fetchChecks, clauseChecks}
+use Rattle.fetches.specs.Code.{faultOf}
 
 -- ---- in the buffer
 
-pub inside :
-    (buffer : Words) (s : Quadwords) (f : Slots) → buffer .0 < 2 ^ 64
-    → isAtMost (rangeEnd s (quadwordsIn64 (fetchesLength f))) (wholeQuadwords buffer) ≡ insideBuffer buffer s f
-unfolding insideBuffer
-inside buffer s f h = by (leb (s .0 + 2 * f .0) (buffer .0 / 2)) refl
-  where
-    by : (t : Bool) → leb (s .0 + 2 * f .0) (buffer .0 / 2) ≡ t → leb (s .0 + capped (2 * f .0)) (buffer .0 / 2) ≡ t
-    by true e =
-        le-leb (s .0 + capped (2 * f .0)) (buffer .0 / 2) (omega (arith, leb-true (s .0 + 2 * f .0) (buffer .0 / 2) e))
-    by false e =
-        lt-leb (s .0 + capped (2 * f .0)) (buffer .0 / 2) (omega (arith, leb-false (s .0 + 2 * f .0) (buffer .0 / 2) e))
-
 -- fetch i of a clause that was found to lie in the buffer: its first word has its true number, and its last lies in the buffer
-module _ {n : ℕ} (h : n < 2 ^ 64) (s : Quadwords) (f i : Slots) {t : Bool} (e : t ≡ insideBuffer (words n) s f) (y : not t ≡ false) {b : Bool}
+module _ {n : ℕ} (h : n < 2 ^ 64) (s : Quadwords) (f i : Slots) {t : Bool} (e : t ≡ liesIn (words n) s (fetchesLength f)) (y : not t ≡ false) {b : Bool}
     (g : b ≡ isSlotBelow i f) (l : b ≡ true) where
   reach : (i .0 < f .0) × (2 * (s .0 + 2 * f .0) ≤ n)
-  unfolding insideBuffer
+  unfolding liesIn
   reach = (
     ltb-true (i .0) (f .0) (sym g ∙ l),
     omega (arith, leb-true (s .0 + 2 * f .0) (n / 2) (sym e ∙ not-false t y)),
@@ -84,39 +72,39 @@ fault-at k l w s i at f e g =
     g ∙ (λ j. faultOf k l (getD w (e j) 0) (getD w (b j) 0) (getD w (d j) 0))
 
 module _ (k : FetchKind) (l : Limits) (w : List ℕ) (place s : Quadwords) (i : ℕ) where
-  pub fetch-broken : (r : Rule) → Broken r ≡ faultOf k l (word0 w s i) (word1 w s i) (word3 w s i) → firstBroken (fetchChecks k l w place s i) ≡ Refused r (Quadword place) (fetchSlot (slots i))
+  pub fetch-broken : (r : ℕ) → Broken r ≡ faultOf k l (word0 w s i) (word1 w s i) (word3 w s i) → firstBroken (fetchChecks k l w place s i) ≡ Refused r (Quadword place) (fetchSlot (slots i))
   unfolding fetchChecks faultOf firstBroken
   fetch-broken r =
       by (badFetch k (fieldOf (word0 w s i) 0 5) (word3 w s i)) (badRegister k l (word0 w s i) (word1 w s i))
     where
-      by : (a b : Bool) → Broken r ≡ cond a (Broken FetchNumber) (cond b (Broken FetchRegister) Clean) → cond a (Refused FetchNumber (Quadword place) (fetchSlot (slots i))) (cond b (Refused FetchRegister (Quadword place) (fetchSlot (slots i))) Accepted) ≡ Refused r (Quadword place) (fetchSlot (slots i))
+      by : (a b : Bool) → Broken r ≡ cond a (Broken 8) (cond b (Broken 9) Clean) → cond a (Refused 8 (Quadword place) (fetchSlot (slots i))) (cond b (Refused 9 (Quadword place) (fetchSlot (slots i))) Accepted) ≡ Refused r (Quadword place) (fetchSlot (slots i))
       by true b e = cc
       by false true e = cc
-      by false false e = let z : _≡_ {A = ℕ} 0 1 = cc in absurd (omega arith)
+      by false false e = impossible cc
 
   pub fetch-clean : Clean ≡ faultOf k l (word0 w s i) (word1 w s i) (word3 w s i) → firstBroken (fetchChecks k l w place s i) ≡ Accepted
   unfolding fetchChecks faultOf firstBroken
   fetch-clean =
       by (badFetch k (fieldOf (word0 w s i) 0 5) (word3 w s i)) (badRegister k l (word0 w s i) (word1 w s i))
     where
-      by : (a b : Bool) → Clean ≡ cond a (Broken FetchNumber) (cond b (Broken FetchRegister) Clean) → cond a (Refused FetchNumber (Quadword place) (fetchSlot (slots i))) (cond b (Refused FetchRegister (Quadword place) (fetchSlot (slots i))) Accepted) ≡ Accepted
-      by true b e = let z : _≡_ {A = ℕ} 0 1 = cc in absurd (omega arith)
-      by false true e = let z : _≡_ {A = ℕ} 0 1 = cc in absurd (omega arith)
+      by : (a b : Bool) → Clean ≡ cond a (Broken 8) (cond b (Broken 9) Clean) → cond a (Refused 8 (Quadword place) (fetchSlot (slots i))) (cond b (Refused 9 (Quadword place) (fetchSlot (slots i))) Accepted) ≡ Accepted
+      by true b e = impossible cc
+      by false true e = impossible cc
       by false false e = refl
 
 -- ---- the clause
 
 module _ (k : FetchKind) (l : Limits) (w : List ℕ) (place s : Quadwords) (n : Slots) where
-  pub outside : insideBuffer (words (length w)) s n ≡ false → Accepted ≡ firstBroken (clauseChecks k l w place s n)
+  pub outside : liesIn (words (length w)) s (fetchesLength n) ≡ false → Accepted ≡ firstBroken (clauseChecks k l w place s n)
   unfolding clauseChecks firstBroken
   outside h = rw h
 
-  pub within : (v : Verdict) → insideBuffer (words (length w)) s n ≡ true → v ≡ firstBroken (below (fetchChecks k l w place s) (n .0)) → v ≡ firstBroken (clauseChecks k l w place s n)
+  pub within : (v : Verdict) → liesIn (words (length w)) s (fetchesLength n) ≡ true → v ≡ firstBroken (below (fetchChecks k l w place s) (n .0)) → v ≡ firstBroken (clauseChecks k l w place s n)
   unfolding clauseChecks
   within v h e = rw h e
 
   -- an accepted clause that lies in the buffer: every register that any of its fetches names is granted
-  pub accepted-granted : insideBuffer (words (length w)) s n ≡ true → firstBroken (clauseChecks k l w place s n) ≡ Accepted → (i : ℕ) → i < n .0 → (r : Name) → List·Memᴰ r (namedAt k w s i) → granted l r ≡ true
+  pub accepted-granted : liesIn (words (length w)) s (fetchesLength n) ≡ true → firstBroken (clauseChecks k l w place s n) ≡ Accepted → (i : ℕ) → i < n .0 → (r : Name) → List·Memᴰ r (namedAt k w s i) → granted l r ≡ true
   unfolding clauseChecks fetchChecks
   accepted-granted h e i j r m =
       let f = below-each (fetchChecks k l w place s) (n .0) i (rw h at e) j in

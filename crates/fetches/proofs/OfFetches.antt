@@ -4,13 +4,14 @@ use mathlib.Core.Bool.{Bool, true, false, not, and-true}
 use Prim.Native.Nat.{ℕ}
 use borrow.Author.Tests.{eq-eqb, ne-eqb, not-true, not-false}
 use Rattle.bits.specs.Fields.{fieldOf}
-use Rattle.checks.specs.declared.Rule.the-variants.{FetchNumber, FetchRegister}
+use Rattle.opcodes.specs.Numbers.{fetchTaken}
 use Rattle.grants.specs.declared.Limits.{Limits}
 use Rattle.grants.specs.Grants.{register, granted, allGranted}
 use Rattle.grants.proofs.OfGrants.{joined-refused, joined-passed}
-use Rattle.fetches.specs.declared.FetchKind.{FetchKind}
+use Rattle.opcodes.specs.declared.cf.FetchKind.{FetchKind}
 use Rattle.fetches.specs.declared.Fault.the-variants.{Clean, Broken}
-use Rattle.fetches.specs.Fetches.{isTaken, isSemantic, badFetch, destination, source, named, faultOf}
+use Rattle.fetches.specs.Fetches.{isSemantic, badFetch, destination, source, named}
+use Rattle.fetches.specs.Code.{faultOf}
 
 -- the same of a kind that was told
 pub semantic-told : (k told : FetchKind) (n : ℕ) → k ≡ told → isSemantic told n ≡ isSemantic k n
@@ -21,8 +22,8 @@ semantic-told k told n e = ap (λ (j : FetchKind). isSemantic j n) (sym e)
 pub fourth-word : (k : FetchKind) (n w3 : ℕ) → (w3 ≡ 0 → ⊥) → true ≡ badFetch k n w3
 fourth-word k n w3 h = rw (ne-eqb w3 0 h)
 
-pub not-taken : (k told : FetchKind) (n w3 : ℕ) (t : Bool) → w3 ≡ 0 → k ≡ told → t ≡ isTaken told n → not t ≡ badFetch k n w3
-not-taken k told n w3 t h e p = rw (eq-eqb w3 0 h) (ap not (p ∙ ap (λ (j : FetchKind). isTaken j n) (sym e)))
+pub not-taken : (k : FetchKind) (n w3 : ℕ) (t : Bool) → w3 ≡ 0 → t ≡ fetchTaken k n → not t ≡ badFetch k n w3
+not-taken k n w3 t h p = rw (eq-eqb w3 0 h) (ap not p)
 
 -- ---- rule 9
 
@@ -60,7 +61,7 @@ module _ (k : FetchKind) (l : Limits) (w0 w1 w3 n : ℕ) (b : Bool) (e : n ≡ f
   is-bad-fetch : (t : Bool) → b ≡ t → badFetch k (fieldOf w0 0 5) w3 ≡ t
   is-bad-fetch t h = ap (λ (m : ℕ). badFetch k m w3) (sym e) ∙ sym f ∙ h
 
-  pub breaks-8 : b ≡ true → Broken FetchNumber ≡ faultOf k l w0 w1 w3
+  pub breaks-8 : b ≡ true → Broken 8 ≡ faultOf k l w0 w1 w3
   unfolding faultOf
   breaks-8 h = rw (is-bad-fetch true h)
 
@@ -68,7 +69,7 @@ module _ (k : FetchKind) (l : Limits) (w0 w1 w3 n : ℕ) (b : Bool) (e : n ≡ f
     is-granted : (t : Bool) → g ≡ t → allGranted l (named k (fieldOf w0 0 5) w0 w1) ≡ t
     is-granted t h = ap (λ (m : ℕ). allGranted l (named k m w0 w1)) (sym e) ∙ sym q ∙ h
 
-    pub breaks-9 : not g ≡ true → Broken FetchRegister ≡ faultOf k l w0 w1 w3
+    pub breaks-9 : not g ≡ true → Broken 9 ≡ faultOf k l w0 w1 w3
     unfolding faultOf
     breaks-9 h = rw (is-bad-fetch false p, is-granted false (not-true g h))
 

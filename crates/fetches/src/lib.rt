@@ -1,27 +1,23 @@
 // Rules 8 and 9 on a fetch clause: document 01, the paragraph on fetches in "Control-flow words".
-use bits::field;
+use bits::read;
 use checks::Place;
-use checks::Rule;
 use checks::Verdict;
+use formats::fields;
 use grants::Limits;
+use opcodes::cf::FetchKind;
 use units::Quadwords;
 use units::Slots;
 use units::Words;
 ghost use mathlib.Core.Path.{_≡_};
 ghost use Rattle.checks.specs.Checks.{firstBroken};
 ghost use Rattle.grants.specs.Grants.{allGranted};
-ghost use Rattle.fetches.specs.Fetches.{isSemantic, destination, source, named, badFetch, faultOf, insideBuffer, clauseChecks};
-
-// Which clause a fetch stands in: VTX and VTX_TC clauses hold vertex fetches, TEX clauses texture fetches.
-pub enum FetchKind {
-    Vertex,
-    Texture,
-}
+ghost use Rattle.fetches.specs.Fetches.{isSemantic, destination, source, named, badFetch, clauseChecks};
+ghost use Rattle.fetches.specs.Code.{faultOf};
 
 // What one fetch breaks.
 enum Fault {
     Clean,
-    Broken(Rule),
+    Broken(u8),
 }
 
 // A clause of `fetches` fetches from `start` on, whose opener stands at `place`: the first broken check of rules 8 and 9.
@@ -35,7 +31,8 @@ pub fn fetch_clause(
 ) -> Verdict
     ensures { λ r. ⌜ r ≡ firstBroken (clauseChecks kind limits (now (words .entry)) place start fetches) ⌝ }
 {
-    if !is_inside(Words(words.len()), start, fetches) {
+    // Where the clause does not lie in the buffer, rule 6 has refused it.
+    if !units::fetches_lie_in(Words(words.len()), start, fetches) {
         return Verdict::Accepted;
     }
     let mut i = Slots(0);
@@ -57,27 +54,16 @@ pub fn fetch_clause(
     Verdict::Accepted
 }
 
-// Whether the clause lies in a buffer of so many words. Where it does not, rule 6 has refused it.
-fn is_inside(buffer: Words, start: Quadwords, fetches: Slots) -> bool
-    ensures { λ r. ⌜ r ≡ insideBuffer buffer start fetches ⌝ }
-{
-    units::ends_by(
-        start,
-        units::fetches_length(fetches),
-        units::whole_quadwords(buffer),
-    )
-}
-
 // Rules 8 and 9 on one fetch, by its first, second and fourth word.
 fn fetch_fault(kind: FetchKind, limits: Limits, word0: u32, word1: u32, word3: u32) -> Fault
     ensures { λ r. ⌜ r ≡ faultOf kind limits word0 word1 word3 ⌝ }
 {
-    let number = field(word0, 0, 5);
+    let number = read(word0, fields::FETCH_INST);
     if is_bad(kind, number, word3) {
-        return Fault::Broken(Rule::FetchNumber);
+        return Fault::Broken(8);
     }
     if !registers_granted(kind, number, limits, word0, word1) {
-        return Fault::Broken(Rule::FetchRegister);
+        return Fault::Broken(9);
     }
     Fault::Clean
 }
@@ -89,10 +75,7 @@ fn is_bad(kind: FetchKind, number: u32, word3: u32) -> bool
     if word3 != 0 {
         return true;
     }
-    match kind {
-        FetchKind::Vertex => !opcodes::vertex_fetch_taken(number),
-        FetchKind::Texture => !opcodes::texture_fetch_taken(number),
-    }
+    !opcodes::fetch_taken(kind, number)
 }
 
 // A semantic fetch looks its destination up, and names none.
@@ -112,20 +95,20 @@ fn destination_granted(kind: FetchKind, number: u32, limits: Limits, word1: u32)
     if is_semantic(kind, number) {
         return true;
     }
-    if field(word1, 7, 1) != 0 {
+    if read(word1, fields::FETCH_DST_REL) != 0 {
         return true;
     }
-    grants::register_granted(limits, field(word1, 0, 7))
+    grants::register_granted(limits, read(word1, fields::FETCH_DST_GPR))
 }
 
 // Rule 9 on the source.
 fn source_granted(limits: Limits, word0: u32) -> bool
     ensures { λ r. ⌜ r ≡ allGranted limits (source word0) ⌝ }
 {
-    if field(word0, 23, 1) != 0 {
+    if read(word0, fields::FETCH_SRC_REL) != 0 {
         return true;
     }
-    grants::register_granted(limits, field(word0, 16, 7))
+    grants::register_granted(limits, read(word0, fields::FETCH_SRC_GPR))
 }
 
 // Rule 9: destination, then source.

@@ -7,8 +7,10 @@ use Prim.Native.Nat.{ℕ, _+_, _*_, _/_, _%_, _^_, _<_}
 use native.Mathlib.Omega.{arith}
 use lib.ListN.{getD}
 use Rattle.units.specs.Units.{quadwords, slots}
-use Rattle.bits.specs.Fields.{fieldOf, Field, fieldsOf, wordOf, fitsTable, fillsWord}
-use Rattle.bits.proofs.OfRows.{word-of-fields, fields-of-word, fields-fit, word-lt}
+use Rattle.bits.specs.declared.Bits.{Bits}
+use Rattle.bits.specs.Fields.{fieldOf}
+use Rattle.bits.specs.Tables.{fieldsOf, wordOf, fitsTable, fillsWord}
+use Rattle.bits.proofs.OfTables.{word-of-fields, fields-of-word, fields-fit, word-lt}
 use Rattle.formats.specs.declared.cf.CfWord0.{CfWord0}
 use Rattle.formats.specs.declared.cf.CfWord1.{CfWord1}
 use Rattle.formats.specs.declared.cf_alu.CfAluWord0.{CfAluWord0}
@@ -24,14 +26,14 @@ use Rattle.formats.specs.Export as export
 use Rattle.formats.specs.Alu as alu
 
 -- a format: its table takes each bit once, and the record's fields are the table's
-pub record Format {W : Type 0} (table : List Field) (values : W → List ℕ) (of : ℕ → W) : Type 0 where
+pub record Format {W : Type 0} (table : List Bits) (values : W → List ℕ) (of : ℕ → W) : Type 0 where
   pub filled : fillsWord 0 table ≡ true
   pub make : List ℕ → W
   pub of-make : (n : ℕ) → of n ≡ make (fieldsOf table n)
   pub make-values : (r : W) → make (values r) ≡ r
   pub values-of : (n : ℕ) → values (of n) ≡ fieldsOf table n
 
-module _ {W : Type 0} {table : List Field} {values : W → List ℕ} {of : ℕ → W} (f : Format table values of) where
+module _ {W : Type 0} {table : List Bits} {values : W → List ℕ} {of : ℕ → W} (f : Format table values of) where
   -- read and written
   pub word-again : (n : ℕ) → n < 2 ^ 32 → wordOf table (values (of n)) ≡ n
   word-again n h = ap (wordOf table) (f .values-of n) ∙ word-of-fields table (f .filled) n h

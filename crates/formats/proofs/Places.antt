@@ -2,7 +2,7 @@
 use mathlib.Core.Path.{_≡_, ap, sym, _∙_}
 use Prim.Native.Nat.{ℕ, _+_, _*_, _%_, _^_}
 use lib.Pow.{mod-mod-pow}
-use Rattle.bits.specs.Fields.{placeOf}
+use Rattle.bits.specs.Tables.{placeOf}
 
 pub place-cut : (v o w above : ℕ) → above + w ≡ 32 → placeOf (v % 2 ^ 32) o w ≡ placeOf v o w
 place-cut v o w above e =

@@ -1,29 +1,30 @@
--- ALU instructions: ALU_WORD0 with ALU_WORD1_OP2 or ALU_WORD1_OP3.
--- A table has a row for each field, as chapter 10 of document 002 lists them: name, lowest bit, number of bits. `..Values` are the
--- record's fields in the table's order, and `..Of` is the record that a word holds.
+-- ALU instructions: ALU_WORD0 with ALU_WORD1_OP2 or ALU_WORD1_OP3. `..Table` has the fields in their order, `..Values` the
+-- record's fields in the same order, and `..Of` is the record that a word holds.
 use Prim.Native.Nat.{ℕ}
-use mathlib.Core.List.{List, [], _∷_}
-use Rattle.bits.specs.Fields.{fieldOf, Field, bits}
+use mathlib.Core.List.{List, [], _∷_, map}
+use Rattle.bits.specs.declared.Bits.{Bits}
+use Rattle.formats.specs.Fields.{position, _of_, «SRC0_SEL», «SRC0_REL», «SRC0_CHAN», «SRC0_NEG», «SRC1_SEL», «SRC1_REL», «SRC1_CHAN», «SRC1_NEG», «INDEX_MODE», «PRED_SEL», «LAST», «SRC0_ABS», «SRC1_ABS», «UPDATE_EXECUTE_MASK», «UPDATE_PRED», «WRITE_MASK», «OMOD», «OP2_INST», «BANK_SWIZZLE», «DST_GPR», «DST_REL», «DST_CHAN», «CLAMP», «SRC2_SEL», «SRC2_REL», «SRC2_CHAN», «SRC2_NEG», «OP3_INST»}
 use Rattle.formats.specs.declared.alu.AluWord0.{AluWord0}
 use Rattle.formats.specs.declared.alu.AluWord1Op2.{AluWord1Op2}
 use Rattle.formats.specs.declared.alu.AluWord1Op3.{AluWord1Op3}
 
--- ---- ALU_WORD0: section 10.2, "ALU Doubleword 0"
+-- ---- ALU_WORD0
 
-unfoldable pub word0Table : List Field
+unfoldable pub word0Table : List Bits
 word0Table =
-    bits "SRC0_SEL" 0 9
-    ∷ bits "SRC0_REL" 9 1
-    ∷ bits "SRC0_CHAN" 10 2
-    ∷ bits "SRC0_NEG" 12 1
-    ∷ bits "SRC1_SEL" 13 9
-    ∷ bits "SRC1_REL" 22 1
-    ∷ bits "SRC1_CHAN" 23 2
-    ∷ bits "SRC1_NEG" 25 1
-    ∷ bits "INDEX_MODE" 26 3
-    ∷ bits "PRED_SEL" 29 2
-    ∷ bits "LAST" 31 1
-    ∷ []
+    map position
+    («SRC0_SEL»
+    ∷ «SRC0_REL»
+    ∷ «SRC0_CHAN»
+    ∷ «SRC0_NEG»
+    ∷ «SRC1_SEL»
+    ∷ «SRC1_REL»
+    ∷ «SRC1_CHAN»
+    ∷ «SRC1_NEG»
+    ∷ «INDEX_MODE»
+    ∷ «PRED_SEL»
+    ∷ «LAST»
+    ∷ [])
 
 abbrev pub word0Values : AluWord0 → List ℕ
 word0Values r =
@@ -43,36 +44,37 @@ word0Values r =
 abbrev pub word0Of : ℕ → AluWord0
 word0Of n =
     record {
-      «src0_sel» = fieldOf n 0 9;
-      «src0_rel» = fieldOf n 9 1;
-      «src0_chan» = fieldOf n 10 2;
-      «src0_neg» = fieldOf n 12 1;
-      «src1_sel» = fieldOf n 13 9;
-      «src1_rel» = fieldOf n 22 1;
-      «src1_chan» = fieldOf n 23 2;
-      «src1_neg» = fieldOf n 25 1;
-      «index_mode» = fieldOf n 26 3;
-      «pred_sel» = fieldOf n 29 2;
-      last = fieldOf n 31 1;
+      «src0_sel» = «SRC0_SEL» of n;
+      «src0_rel» = «SRC0_REL» of n;
+      «src0_chan» = «SRC0_CHAN» of n;
+      «src0_neg» = «SRC0_NEG» of n;
+      «src1_sel» = «SRC1_SEL» of n;
+      «src1_rel» = «SRC1_REL» of n;
+      «src1_chan» = «SRC1_CHAN» of n;
+      «src1_neg» = «SRC1_NEG» of n;
+      «index_mode» = «INDEX_MODE» of n;
+      «pred_sel» = «PRED_SEL» of n;
+      last = «LAST» of n;
     }
 
--- ---- ALU_WORD1_OP2: section 10.2, "ALU Doubleword 1 Zero to Two Source Operands"
+-- ---- ALU_WORD1_OP2
 
-unfoldable pub op2Table : List Field
+unfoldable pub op2Table : List Bits
 op2Table =
-    bits "SRC0_ABS" 0 1
-    ∷ bits "SRC1_ABS" 1 1
-    ∷ bits "UPDATE_EXECUTE_MASK" 2 1
-    ∷ bits "UPDATE_PRED" 3 1
-    ∷ bits "WRITE_MASK" 4 1
-    ∷ bits "OMOD" 5 2
-    ∷ bits "ALU_INST" 7 11
-    ∷ bits "BANK_SWIZZLE" 18 3
-    ∷ bits "DST_GPR" 21 7
-    ∷ bits "DST_REL" 28 1
-    ∷ bits "DST_CHAN" 29 2
-    ∷ bits "CLAMP" 31 1
-    ∷ []
+    map position
+    («SRC0_ABS»
+    ∷ «SRC1_ABS»
+    ∷ «UPDATE_EXECUTE_MASK»
+    ∷ «UPDATE_PRED»
+    ∷ «WRITE_MASK»
+    ∷ «OMOD»
+    ∷ «OP2_INST»
+    ∷ «BANK_SWIZZLE»
+    ∷ «DST_GPR»
+    ∷ «DST_REL»
+    ∷ «DST_CHAN»
+    ∷ «CLAMP»
+    ∷ [])
 
 abbrev pub op2Values : AluWord1Op2 → List ℕ
 op2Values r =
@@ -93,35 +95,36 @@ op2Values r =
 abbrev pub op2Of : ℕ → AluWord1Op2
 op2Of n =
     record {
-      «src0_abs» = fieldOf n 0 1;
-      «src1_abs» = fieldOf n 1 1;
-      «update_execute_mask» = fieldOf n 2 1;
-      «update_pred» = fieldOf n 3 1;
-      «write_mask» = fieldOf n 4 1;
-      omod = fieldOf n 5 2;
-      «alu_inst» = fieldOf n 7 11;
-      «bank_swizzle» = fieldOf n 18 3;
-      «dst_gpr» = fieldOf n 21 7;
-      «dst_rel» = fieldOf n 28 1;
-      «dst_chan» = fieldOf n 29 2;
-      clamp = fieldOf n 31 1;
+      «src0_abs» = «SRC0_ABS» of n;
+      «src1_abs» = «SRC1_ABS» of n;
+      «update_execute_mask» = «UPDATE_EXECUTE_MASK» of n;
+      «update_pred» = «UPDATE_PRED» of n;
+      «write_mask» = «WRITE_MASK» of n;
+      omod = «OMOD» of n;
+      «alu_inst» = «OP2_INST» of n;
+      «bank_swizzle» = «BANK_SWIZZLE» of n;
+      «dst_gpr» = «DST_GPR» of n;
+      «dst_rel» = «DST_REL» of n;
+      «dst_chan» = «DST_CHAN» of n;
+      clamp = «CLAMP» of n;
     }
 
--- ---- ALU_WORD1_OP3: section 10.2, "ALU Doubleword 1 Three Source Operands"
+-- ---- ALU_WORD1_OP3
 
-unfoldable pub op3Table : List Field
+unfoldable pub op3Table : List Bits
 op3Table =
-    bits "SRC2_SEL" 0 9
-    ∷ bits "SRC2_REL" 9 1
-    ∷ bits "SRC2_CHAN" 10 2
-    ∷ bits "SRC2_NEG" 12 1
-    ∷ bits "ALU_INST" 13 5
-    ∷ bits "BANK_SWIZZLE" 18 3
-    ∷ bits "DST_GPR" 21 7
-    ∷ bits "DST_REL" 28 1
-    ∷ bits "DST_CHAN" 29 2
-    ∷ bits "CLAMP" 31 1
-    ∷ []
+    map position
+    («SRC2_SEL»
+    ∷ «SRC2_REL»
+    ∷ «SRC2_CHAN»
+    ∷ «SRC2_NEG»
+    ∷ «OP3_INST»
+    ∷ «BANK_SWIZZLE»
+    ∷ «DST_GPR»
+    ∷ «DST_REL»
+    ∷ «DST_CHAN»
+    ∷ «CLAMP»
+    ∷ [])
 
 abbrev pub op3Values : AluWord1Op3 → List ℕ
 op3Values r =
@@ -140,14 +143,14 @@ op3Values r =
 abbrev pub op3Of : ℕ → AluWord1Op3
 op3Of n =
     record {
-      «src2_sel» = fieldOf n 0 9;
-      «src2_rel» = fieldOf n 9 1;
-      «src2_chan» = fieldOf n 10 2;
-      «src2_neg» = fieldOf n 12 1;
-      «alu_inst» = fieldOf n 13 5;
-      «bank_swizzle» = fieldOf n 18 3;
-      «dst_gpr» = fieldOf n 21 7;
-      «dst_rel» = fieldOf n 28 1;
-      «dst_chan» = fieldOf n 29 2;
-      clamp = fieldOf n 31 1;
+      «src2_sel» = «SRC2_SEL» of n;
+      «src2_rel» = «SRC2_REL» of n;
+      «src2_chan» = «SRC2_CHAN» of n;
+      «src2_neg» = «SRC2_NEG» of n;
+      «alu_inst» = «OP3_INST» of n;
+      «bank_swizzle» = «BANK_SWIZZLE» of n;
+      «dst_gpr» = «DST_GPR» of n;
+      «dst_rel» = «DST_REL» of n;
+      «dst_chan» = «DST_CHAN» of n;
+      clamp = «CLAMP» of n;
     }

@@ -1,19 +1,31 @@
--- Control-flow instructions other than ALU clause openers and exports: CF_WORD0 and CF_WORD1.
--- A table has a row for each field, as chapter 10 of document 002 lists them: name, lowest bit, number of bits. `..Values` are the
--- record's fields in the table's order, and `..Of` is the record that a word holds.
+-- Control-flow instructions other than ALU clause openers and exports: CF_WORD0 and CF_WORD1. `..Table` has the fields in their order, `..Values` the
+-- record's fields in the same order, and `..Of` is the record that a word holds.
 use Prim.Native.Nat.{ℕ, _+_, _*_, _/_, _%_}
-use mathlib.Core.List.{List, [], _∷_}
-use Rattle.bits.specs.Fields.{fieldOf, Field, bits}
+use mathlib.Core.List.{List, [], _∷_, map}
+use Rattle.bits.specs.declared.Bits.{Bits}
+use Rattle.units.specs.declared.Slots.{Slots}
 use Rattle.units.specs.Units.{quadwords, slots}
+use Rattle.formats.specs.Fields.{position, _of_, «ADDR», «POP_COUNT», «CF_CONST», «COND», «COUNT», «CALL_COUNT», «COUNT_3», «BIT_20», «END_OF_PROGRAM», «VALID_PIXEL_MODE», «CF_INST», «WHOLE_QUAD_MODE», «BARRIER»}
 use Rattle.formats.specs.declared.cf.CfWord0.{CfWord0}
 use Rattle.formats.specs.declared.cf.CfWord1.{CfWord1}
 
--- ---- CF_WORD0: section 10.1, "Control Flow Doubleword 0"
+-- COUNT is one field in two pieces: what a word holds of it, and its low and top bits
+abbrev pub countOf : ℕ → Slots
+countOf n = slots («COUNT» of n + 8 * («COUNT_3» of n))
 
-unfoldable pub word0Table : List Field
+abbrev pub lowCount : Slots → ℕ
+lowCount count = count .0 % 8
+
+abbrev pub topCount : Slots → ℕ
+topCount count = count .0 / 8
+
+-- ---- CF_WORD0
+
+unfoldable pub word0Table : List Bits
 word0Table =
-    bits "ADDR" 0 32
-    ∷ []
+    map position
+    («ADDR»
+    ∷ [])
 
 abbrev pub word0Values : CfWord0 → List ℕ
 word0Values r =
@@ -23,36 +35,36 @@ word0Values r =
 abbrev pub word0Of : ℕ → CfWord0
 word0Of n =
     record {
-      addr = quadwords (fieldOf n 0 32);
+      addr = quadwords («ADDR» of n);
     }
 
--- ---- CF_WORD1: section 10.1, "Control Flow Doubleword 1"
+-- ---- CF_WORD1
 
--- COUNT is one field in two pieces, its top bit at 19; bit 20 is carried
-unfoldable pub word1Table : List Field
+unfoldable pub word1Table : List Bits
 word1Table =
-    bits "POP_COUNT" 0 3
-    ∷ bits "CF_CONST" 3 5
-    ∷ bits "COND" 8 2
-    ∷ bits "COUNT" 10 3
-    ∷ bits "CALL_COUNT" 13 6
-    ∷ bits "COUNT_3" 19 1
-    ∷ bits "bit 20" 20 1
-    ∷ bits "END_OF_PROGRAM" 21 1
-    ∷ bits "VALID_PIXEL_MODE" 22 1
-    ∷ bits "CF_INST" 23 7
-    ∷ bits "WHOLE_QUAD_MODE" 30 1
-    ∷ bits "BARRIER" 31 1
-    ∷ []
+    map position
+    («POP_COUNT»
+    ∷ «CF_CONST»
+    ∷ «COND»
+    ∷ «COUNT»
+    ∷ «CALL_COUNT»
+    ∷ «COUNT_3»
+    ∷ «BIT_20»
+    ∷ «END_OF_PROGRAM»
+    ∷ «VALID_PIXEL_MODE»
+    ∷ «CF_INST»
+    ∷ «WHOLE_QUAD_MODE»
+    ∷ «BARRIER»
+    ∷ [])
 
 abbrev pub word1Values : CfWord1 → List ℕ
 word1Values r =
     r .«pop_count»
     ∷ r .«cf_const»
     ∷ r .cond
-    ∷ r .count .0 % 8
+    ∷ lowCount (r .count)
     ∷ r .«call_count»
-    ∷ r .count .0 / 8
+    ∷ topCount (r .count)
     ∷ r .rest
     ∷ r .«end_of_program»
     ∷ r .«valid_pixel_mode»
@@ -64,15 +76,15 @@ word1Values r =
 abbrev pub word1Of : ℕ → CfWord1
 word1Of n =
     record {
-      «pop_count» = fieldOf n 0 3;
-      «cf_const» = fieldOf n 3 5;
-      cond = fieldOf n 8 2;
-      count = slots (fieldOf n 10 3 + 8 * fieldOf n 19 1);
-      «call_count» = fieldOf n 13 6;
-      rest = fieldOf n 20 1;
-      «end_of_program» = fieldOf n 21 1;
-      «valid_pixel_mode» = fieldOf n 22 1;
-      «cf_inst» = fieldOf n 23 7;
-      «whole_quad_mode» = fieldOf n 30 1;
-      barrier = fieldOf n 31 1;
+      «pop_count» = «POP_COUNT» of n;
+      «cf_const» = «CF_CONST» of n;
+      cond = «COND» of n;
+      count = countOf n;
+      «call_count» = «CALL_COUNT» of n;
+      rest = «BIT_20» of n;
+      «end_of_program» = «END_OF_PROGRAM» of n;
+      «valid_pixel_mode» = «VALID_PIXEL_MODE» of n;
+      «cf_inst» = «CF_INST» of n;
+      «whole_quad_mode» = «WHOLE_QUAD_MODE» of n;
+      barrier = «BARRIER» of n;
     }

@@ -1,4 +1,5 @@
 -- The root of what the contracts cite.
+pub mod Fields
 pub mod Cf
 pub mod CfAlu
 pub mod Export

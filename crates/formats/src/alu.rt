@@ -1,9 +1,10 @@
 // ALU instructions: ALU_WORD0 with ALU_WORD1_OP2 or ALU_WORD1_OP3.
-// Each field is a call of the proved extraction, so that a function reads like its table in chapter 10 of document 002.
-use bits::field;
-use bits::place;
+use crate::fields;
+use bits::fits;
+use bits::put;
+use bits::read;
 ghost use mathlib.Core.Path.{_≡_};
-ghost use Rattle.bits.specs.Fields.{wordOf, fitsTable};
+ghost use Rattle.bits.specs.Tables.{wordOf, fitsTable};
 ghost use Rattle.formats.specs.Alu as format;
 
 // ALU_WORD0.
@@ -25,17 +26,17 @@ pub fn read_word0(w: u32) -> AluWord0
     ensures { λ r. ⌜ r ≡ format.word0Of w ⌝ }
 {
     AluWord0 {
-        src0_sel: field(w, 0, 9),
-        src0_rel: field(w, 9, 1),
-        src0_chan: field(w, 10, 2),
-        src0_neg: field(w, 12, 1),
-        src1_sel: field(w, 13, 9),
-        src1_rel: field(w, 22, 1),
-        src1_chan: field(w, 23, 2),
-        src1_neg: field(w, 25, 1),
-        index_mode: field(w, 26, 3),
-        pred_sel: field(w, 29, 2),
-        last: field(w, 31, 1),
+        src0_sel: read(w, fields::SRC0_SEL),
+        src0_rel: read(w, fields::SRC0_REL),
+        src0_chan: read(w, fields::SRC0_CHAN),
+        src0_neg: read(w, fields::SRC0_NEG),
+        src1_sel: read(w, fields::SRC1_SEL),
+        src1_rel: read(w, fields::SRC1_REL),
+        src1_chan: read(w, fields::SRC1_CHAN),
+        src1_neg: read(w, fields::SRC1_NEG),
+        index_mode: read(w, fields::INDEX_MODE),
+        pred_sel: read(w, fields::PRED_SEL),
+        last: read(w, fields::LAST),
     }
 }
 
@@ -43,34 +44,34 @@ pub fn read_word0(w: u32) -> AluWord0
 pub fn write_word0(r: AluWord0) -> u32
     ensures { λ w. ⌜ w ≡ wordOf format.word0Table (format.word0Values r) ⌝ }
 {
-    place(r.src0_sel, 0, 9)
-        | place(r.src0_rel, 9, 1)
-        | place(r.src0_chan, 10, 2)
-        | place(r.src0_neg, 12, 1)
-        | place(r.src1_sel, 13, 9)
-        | place(r.src1_rel, 22, 1)
-        | place(r.src1_chan, 23, 2)
-        | place(r.src1_neg, 25, 1)
-        | place(r.index_mode, 26, 3)
-        | place(r.pred_sel, 29, 2)
-        | place(r.last, 31, 1)
+    put(r.src0_sel, fields::SRC0_SEL)
+        | put(r.src0_rel, fields::SRC0_REL)
+        | put(r.src0_chan, fields::SRC0_CHAN)
+        | put(r.src0_neg, fields::SRC0_NEG)
+        | put(r.src1_sel, fields::SRC1_SEL)
+        | put(r.src1_rel, fields::SRC1_REL)
+        | put(r.src1_chan, fields::SRC1_CHAN)
+        | put(r.src1_neg, fields::SRC1_NEG)
+        | put(r.index_mode, fields::INDEX_MODE)
+        | put(r.pred_sel, fields::PRED_SEL)
+        | put(r.last, fields::LAST)
 }
 
 // Whether each field is within its width.
 pub fn word0_fits(r: AluWord0) -> bool
     ensures { λ ok. ⌜ ok ≡ fitsTable format.word0Table (format.word0Values r) ⌝ }
 {
-    (r.src0_sel < 0x200)
-        & (r.src0_rel < 0x2)
-        & (r.src0_chan < 0x4)
-        & (r.src0_neg < 0x2)
-        & (r.src1_sel < 0x200)
-        & (r.src1_rel < 0x2)
-        & (r.src1_chan < 0x4)
-        & (r.src1_neg < 0x2)
-        & (r.index_mode < 0x8)
-        & (r.pred_sel < 0x4)
-        & (r.last < 0x2)
+    fits(r.src0_sel, fields::SRC0_SEL)
+        & fits(r.src0_rel, fields::SRC0_REL)
+        & fits(r.src0_chan, fields::SRC0_CHAN)
+        & fits(r.src0_neg, fields::SRC0_NEG)
+        & fits(r.src1_sel, fields::SRC1_SEL)
+        & fits(r.src1_rel, fields::SRC1_REL)
+        & fits(r.src1_chan, fields::SRC1_CHAN)
+        & fits(r.src1_neg, fields::SRC1_NEG)
+        & fits(r.index_mode, fields::INDEX_MODE)
+        & fits(r.pred_sel, fields::PRED_SEL)
+        & fits(r.last, fields::LAST)
 }
 
 // ALU_WORD1_OP2.
@@ -94,18 +95,18 @@ pub fn read_op2(w: u32) -> AluWord1Op2
     ensures { λ r. ⌜ r ≡ format.op2Of w ⌝ }
 {
     AluWord1Op2 {
-        src0_abs: field(w, 0, 1),
-        src1_abs: field(w, 1, 1),
-        update_execute_mask: field(w, 2, 1),
-        update_pred: field(w, 3, 1),
-        write_mask: field(w, 4, 1),
-        omod: field(w, 5, 2),
-        alu_inst: field(w, 7, 11),
-        bank_swizzle: field(w, 18, 3),
-        dst_gpr: field(w, 21, 7),
-        dst_rel: field(w, 28, 1),
-        dst_chan: field(w, 29, 2),
-        clamp: field(w, 31, 1),
+        src0_abs: read(w, fields::SRC0_ABS),
+        src1_abs: read(w, fields::SRC1_ABS),
+        update_execute_mask: read(w, fields::UPDATE_EXECUTE_MASK),
+        update_pred: read(w, fields::UPDATE_PRED),
+        write_mask: read(w, fields::WRITE_MASK),
+        omod: read(w, fields::OMOD),
+        alu_inst: read(w, fields::OP2_INST),
+        bank_swizzle: read(w, fields::BANK_SWIZZLE),
+        dst_gpr: read(w, fields::DST_GPR),
+        dst_rel: read(w, fields::DST_REL),
+        dst_chan: read(w, fields::DST_CHAN),
+        clamp: read(w, fields::CLAMP),
     }
 }
 
@@ -113,36 +114,36 @@ pub fn read_op2(w: u32) -> AluWord1Op2
 pub fn write_op2(r: AluWord1Op2) -> u32
     ensures { λ w. ⌜ w ≡ wordOf format.op2Table (format.op2Values r) ⌝ }
 {
-    place(r.src0_abs, 0, 1)
-        | place(r.src1_abs, 1, 1)
-        | place(r.update_execute_mask, 2, 1)
-        | place(r.update_pred, 3, 1)
-        | place(r.write_mask, 4, 1)
-        | place(r.omod, 5, 2)
-        | place(r.alu_inst, 7, 11)
-        | place(r.bank_swizzle, 18, 3)
-        | place(r.dst_gpr, 21, 7)
-        | place(r.dst_rel, 28, 1)
-        | place(r.dst_chan, 29, 2)
-        | place(r.clamp, 31, 1)
+    put(r.src0_abs, fields::SRC0_ABS)
+        | put(r.src1_abs, fields::SRC1_ABS)
+        | put(r.update_execute_mask, fields::UPDATE_EXECUTE_MASK)
+        | put(r.update_pred, fields::UPDATE_PRED)
+        | put(r.write_mask, fields::WRITE_MASK)
+        | put(r.omod, fields::OMOD)
+        | put(r.alu_inst, fields::OP2_INST)
+        | put(r.bank_swizzle, fields::BANK_SWIZZLE)
+        | put(r.dst_gpr, fields::DST_GPR)
+        | put(r.dst_rel, fields::DST_REL)
+        | put(r.dst_chan, fields::DST_CHAN)
+        | put(r.clamp, fields::CLAMP)
 }
 
 // Whether each field is within its width.
 pub fn op2_fits(r: AluWord1Op2) -> bool
     ensures { λ ok. ⌜ ok ≡ fitsTable format.op2Table (format.op2Values r) ⌝ }
 {
-    (r.src0_abs < 0x2)
-        & (r.src1_abs < 0x2)
-        & (r.update_execute_mask < 0x2)
-        & (r.update_pred < 0x2)
-        & (r.write_mask < 0x2)
-        & (r.omod < 0x4)
-        & (r.alu_inst < 0x800)
-        & (r.bank_swizzle < 0x8)
-        & (r.dst_gpr < 0x80)
-        & (r.dst_rel < 0x2)
-        & (r.dst_chan < 0x4)
-        & (r.clamp < 0x2)
+    fits(r.src0_abs, fields::SRC0_ABS)
+        & fits(r.src1_abs, fields::SRC1_ABS)
+        & fits(r.update_execute_mask, fields::UPDATE_EXECUTE_MASK)
+        & fits(r.update_pred, fields::UPDATE_PRED)
+        & fits(r.write_mask, fields::WRITE_MASK)
+        & fits(r.omod, fields::OMOD)
+        & fits(r.alu_inst, fields::OP2_INST)
+        & fits(r.bank_swizzle, fields::BANK_SWIZZLE)
+        & fits(r.dst_gpr, fields::DST_GPR)
+        & fits(r.dst_rel, fields::DST_REL)
+        & fits(r.dst_chan, fields::DST_CHAN)
+        & fits(r.clamp, fields::CLAMP)
 }
 
 // ALU_WORD1_OP3.
@@ -164,16 +165,16 @@ pub fn read_op3(w: u32) -> AluWord1Op3
     ensures { λ r. ⌜ r ≡ format.op3Of w ⌝ }
 {
     AluWord1Op3 {
-        src2_sel: field(w, 0, 9),
-        src2_rel: field(w, 9, 1),
-        src2_chan: field(w, 10, 2),
-        src2_neg: field(w, 12, 1),
-        alu_inst: field(w, 13, 5),
-        bank_swizzle: field(w, 18, 3),
-        dst_gpr: field(w, 21, 7),
-        dst_rel: field(w, 28, 1),
-        dst_chan: field(w, 29, 2),
-        clamp: field(w, 31, 1),
+        src2_sel: read(w, fields::SRC2_SEL),
+        src2_rel: read(w, fields::SRC2_REL),
+        src2_chan: read(w, fields::SRC2_CHAN),
+        src2_neg: read(w, fields::SRC2_NEG),
+        alu_inst: read(w, fields::OP3_INST),
+        bank_swizzle: read(w, fields::BANK_SWIZZLE),
+        dst_gpr: read(w, fields::DST_GPR),
+        dst_rel: read(w, fields::DST_REL),
+        dst_chan: read(w, fields::DST_CHAN),
+        clamp: read(w, fields::CLAMP),
     }
 }
 
@@ -181,30 +182,30 @@ pub fn read_op3(w: u32) -> AluWord1Op3
 pub fn write_op3(r: AluWord1Op3) -> u32
     ensures { λ w. ⌜ w ≡ wordOf format.op3Table (format.op3Values r) ⌝ }
 {
-    place(r.src2_sel, 0, 9)
-        | place(r.src2_rel, 9, 1)
-        | place(r.src2_chan, 10, 2)
-        | place(r.src2_neg, 12, 1)
-        | place(r.alu_inst, 13, 5)
-        | place(r.bank_swizzle, 18, 3)
-        | place(r.dst_gpr, 21, 7)
-        | place(r.dst_rel, 28, 1)
-        | place(r.dst_chan, 29, 2)
-        | place(r.clamp, 31, 1)
+    put(r.src2_sel, fields::SRC2_SEL)
+        | put(r.src2_rel, fields::SRC2_REL)
+        | put(r.src2_chan, fields::SRC2_CHAN)
+        | put(r.src2_neg, fields::SRC2_NEG)
+        | put(r.alu_inst, fields::OP3_INST)
+        | put(r.bank_swizzle, fields::BANK_SWIZZLE)
+        | put(r.dst_gpr, fields::DST_GPR)
+        | put(r.dst_rel, fields::DST_REL)
+        | put(r.dst_chan, fields::DST_CHAN)
+        | put(r.clamp, fields::CLAMP)
 }
 
 // Whether each field is within its width.
 pub fn op3_fits(r: AluWord1Op3) -> bool
     ensures { λ ok. ⌜ ok ≡ fitsTable format.op3Table (format.op3Values r) ⌝ }
 {
-    (r.src2_sel < 0x200)
-        & (r.src2_rel < 0x2)
-        & (r.src2_chan < 0x4)
-        & (r.src2_neg < 0x2)
-        & (r.alu_inst < 0x20)
-        & (r.bank_swizzle < 0x8)
-        & (r.dst_gpr < 0x80)
-        & (r.dst_rel < 0x2)
-        & (r.dst_chan < 0x4)
-        & (r.clamp < 0x2)
+    fits(r.src2_sel, fields::SRC2_SEL)
+        & fits(r.src2_rel, fields::SRC2_REL)
+        & fits(r.src2_chan, fields::SRC2_CHAN)
+        & fits(r.src2_neg, fields::SRC2_NEG)
+        & fits(r.alu_inst, fields::OP3_INST)
+        & fits(r.bank_swizzle, fields::BANK_SWIZZLE)
+        & fits(r.dst_gpr, fields::DST_GPR)
+        & fits(r.dst_rel, fields::DST_REL)
+        & fits(r.dst_chan, fields::DST_CHAN)
+        & fits(r.clamp, fields::CLAMP)
 }

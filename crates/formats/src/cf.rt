@@ -1,11 +1,14 @@
 // Control-flow instructions other than ALU clause openers and exports: CF_WORD0 and CF_WORD1.
-// Each field is a call of the proved extraction, so that a function reads like its table in chapter 10 of document 002.
-use bits::field;
-use bits::place;
+use crate::count_fits;
+use crate::fields;
+use crate::low_half;
+use bits::fits;
+use bits::put;
+use bits::read;
 use units::Quadwords;
 use units::Slots;
 ghost use mathlib.Core.Path.{_≡_};
-ghost use Rattle.bits.specs.Fields.{wordOf, fitsTable};
+ghost use Rattle.bits.specs.Tables.{wordOf, fitsTable};
 ghost use Rattle.formats.specs.Cf as format;
 
 // CF_WORD0.
@@ -17,7 +20,7 @@ pub fn read_word0(w: u32) -> CfWord0
     ensures { λ r. ⌜ r ≡ format.word0Of w ⌝ }
 {
     CfWord0 {
-        addr: Quadwords(field(w, 0, 32) as usize),
+        addr: Quadwords(read(w, fields::ADDR) as usize),
     }
 }
 
@@ -25,14 +28,14 @@ pub fn read_word0(w: u32) -> CfWord0
 pub fn write_word0(r: CfWord0) -> u32
     ensures { λ w. ⌜ w ≡ wordOf format.word0Table (format.word0Values r) ⌝ }
 {
-    place((r.addr.0 % 0x1_0000_0000) as u32, 0, 32)
+    put(low_half(r.addr.0), fields::ADDR)
 }
 
 // Whether each field is within its width.
 pub fn word0_fits(r: CfWord0) -> bool
     ensures { λ ok. ⌜ ok ≡ fitsTable format.word0Table (format.word0Values r) ⌝ }
 {
-    (r.addr.0 < 0x1_0000_0000)
+    count_fits(r.addr.0, fields::ADDR)
 }
 
 // CF_WORD1.
@@ -51,21 +54,41 @@ pub struct CfWord1 {
     pub barrier: u32,
 }
 
+// COUNT, which a word holds in two pieces.
+pub fn read_count(w: u32) -> Slots
+    ensures { λ r. ⌜ r ≡ format.countOf w ⌝ }
+{
+    Slots((read(w, fields::COUNT) + 8 * read(w, fields::COUNT_3)) as usize)
+}
+
+// Its low three bits, and its top bit with what does not fit.
+fn low_count(count: Slots) -> usize
+    ensures { λ r. ⌜ r ≡ format.lowCount count ⌝ }
+{
+    count.0 % 8
+}
+
+fn top_count(count: Slots) -> usize
+    ensures { λ r. ⌜ r ≡ format.topCount count ⌝ }
+{
+    count.0 / 8
+}
+
 pub fn read_word1(w: u32) -> CfWord1
     ensures { λ r. ⌜ r ≡ format.word1Of w ⌝ }
 {
     CfWord1 {
-        pop_count: field(w, 0, 3),
-        cf_const: field(w, 3, 5),
-        cond: field(w, 8, 2),
-        count: Slots((field(w, 10, 3) + 8 * field(w, 19, 1)) as usize),
-        call_count: field(w, 13, 6),
-        rest: field(w, 20, 1),
-        end_of_program: field(w, 21, 1),
-        valid_pixel_mode: field(w, 22, 1),
-        cf_inst: field(w, 23, 7),
-        whole_quad_mode: field(w, 30, 1),
-        barrier: field(w, 31, 1),
+        pop_count: read(w, fields::POP_COUNT),
+        cf_const: read(w, fields::CF_CONST),
+        cond: read(w, fields::COND),
+        count: read_count(w),
+        call_count: read(w, fields::CALL_COUNT),
+        rest: read(w, fields::BIT_20),
+        end_of_program: read(w, fields::END_OF_PROGRAM),
+        valid_pixel_mode: read(w, fields::VALID_PIXEL_MODE),
+        cf_inst: read(w, fields::CF_INST),
+        whole_quad_mode: read(w, fields::WHOLE_QUAD_MODE),
+        barrier: read(w, fields::BARRIER),
     }
 }
 
@@ -73,34 +96,36 @@ pub fn read_word1(w: u32) -> CfWord1
 pub fn write_word1(r: CfWord1) -> u32
     ensures { λ w. ⌜ w ≡ wordOf format.word1Table (format.word1Values r) ⌝ }
 {
-    place(r.pop_count, 0, 3)
-        | place(r.cf_const, 3, 5)
-        | place(r.cond, 8, 2)
-        | place((r.count.0 % 8) as u32, 10, 3)
-        | place(r.call_count, 13, 6)
-        | place((r.count.0 / 8 % 0x1_0000_0000) as u32, 19, 1)
-        | place(r.rest, 20, 1)
-        | place(r.end_of_program, 21, 1)
-        | place(r.valid_pixel_mode, 22, 1)
-        | place(r.cf_inst, 23, 7)
-        | place(r.whole_quad_mode, 30, 1)
-        | place(r.barrier, 31, 1)
+    let count = r.count;
+    put(r.pop_count, fields::POP_COUNT)
+        | put(r.cf_const, fields::CF_CONST)
+        | put(r.cond, fields::COND)
+        | put(low_half(low_count(count)), fields::COUNT)
+        | put(r.call_count, fields::CALL_COUNT)
+        | put(low_half(top_count(count)), fields::COUNT_3)
+        | put(r.rest, fields::BIT_20)
+        | put(r.end_of_program, fields::END_OF_PROGRAM)
+        | put(r.valid_pixel_mode, fields::VALID_PIXEL_MODE)
+        | put(r.cf_inst, fields::CF_INST)
+        | put(r.whole_quad_mode, fields::WHOLE_QUAD_MODE)
+        | put(r.barrier, fields::BARRIER)
 }
 
 // Whether each field is within its width.
 pub fn word1_fits(r: CfWord1) -> bool
     ensures { λ ok. ⌜ ok ≡ fitsTable format.word1Table (format.word1Values r) ⌝ }
 {
-    (r.pop_count < 0x8)
-        & (r.cf_const < 0x20)
-        & (r.cond < 0x4)
-        & (r.count.0 % 8 < 0x8)
-        & (r.call_count < 0x40)
-        & (r.count.0 / 8 < 0x2)
-        & (r.rest < 0x2)
-        & (r.end_of_program < 0x2)
-        & (r.valid_pixel_mode < 0x2)
-        & (r.cf_inst < 0x80)
-        & (r.whole_quad_mode < 0x2)
-        & (r.barrier < 0x2)
+    let count = r.count;
+    fits(r.pop_count, fields::POP_COUNT)
+        & fits(r.cf_const, fields::CF_CONST)
+        & fits(r.cond, fields::COND)
+        & count_fits(low_count(count), fields::COUNT)
+        & fits(r.call_count, fields::CALL_COUNT)
+        & count_fits(top_count(count), fields::COUNT_3)
+        & fits(r.rest, fields::BIT_20)
+        & fits(r.end_of_program, fields::END_OF_PROGRAM)
+        & fits(r.valid_pixel_mode, fields::VALID_PIXEL_MODE)
+        & fits(r.cf_inst, fields::CF_INST)
+        & fits(r.whole_quad_mode, fields::WHOLE_QUAD_MODE)
+        & fits(r.barrier, fields::BARRIER)
 }

@@ -1,9 +1,10 @@
 // Exports: CF_ALLOC_EXPORT_WORD0 and CF_ALLOC_EXPORT_WORD1_SWIZ.
-// Each field is a call of the proved extraction, so that a function reads like its table in chapter 10 of document 002.
-use bits::field;
-use bits::place;
+use crate::fields;
+use bits::fits;
+use bits::put;
+use bits::read;
 ghost use mathlib.Core.Path.{_≡_};
-ghost use Rattle.bits.specs.Fields.{wordOf, fitsTable};
+ghost use Rattle.bits.specs.Tables.{wordOf, fitsTable};
 ghost use Rattle.formats.specs.Export as format;
 
 // CF_ALLOC_EXPORT_WORD0.
@@ -21,12 +22,12 @@ pub fn read_word0(w: u32) -> CfAllocExportWord0
     ensures { λ r. ⌜ r ≡ format.word0Of w ⌝ }
 {
     CfAllocExportWord0 {
-        array_base: field(w, 0, 13),
-        export_type: field(w, 13, 2),
-        rw_gpr: field(w, 15, 7),
-        rw_rel: field(w, 22, 1),
-        index_gpr: field(w, 23, 7),
-        elem_size: field(w, 30, 2),
+        array_base: read(w, fields::ARRAY_BASE),
+        export_type: read(w, fields::TYPE),
+        rw_gpr: read(w, fields::RW_GPR),
+        rw_rel: read(w, fields::RW_REL),
+        index_gpr: read(w, fields::INDEX_GPR),
+        elem_size: read(w, fields::ELEM_SIZE),
     }
 }
 
@@ -34,24 +35,24 @@ pub fn read_word0(w: u32) -> CfAllocExportWord0
 pub fn write_word0(r: CfAllocExportWord0) -> u32
     ensures { λ w. ⌜ w ≡ wordOf format.word0Table (format.word0Values r) ⌝ }
 {
-    place(r.array_base, 0, 13)
-        | place(r.export_type, 13, 2)
-        | place(r.rw_gpr, 15, 7)
-        | place(r.rw_rel, 22, 1)
-        | place(r.index_gpr, 23, 7)
-        | place(r.elem_size, 30, 2)
+    put(r.array_base, fields::ARRAY_BASE)
+        | put(r.export_type, fields::TYPE)
+        | put(r.rw_gpr, fields::RW_GPR)
+        | put(r.rw_rel, fields::RW_REL)
+        | put(r.index_gpr, fields::INDEX_GPR)
+        | put(r.elem_size, fields::ELEM_SIZE)
 }
 
 // Whether each field is within its width.
 pub fn word0_fits(r: CfAllocExportWord0) -> bool
     ensures { λ ok. ⌜ ok ≡ fitsTable format.word0Table (format.word0Values r) ⌝ }
 {
-    (r.array_base < 0x2000)
-        & (r.export_type < 0x4)
-        & (r.rw_gpr < 0x80)
-        & (r.rw_rel < 0x2)
-        & (r.index_gpr < 0x80)
-        & (r.elem_size < 0x4)
+    fits(r.array_base, fields::ARRAY_BASE)
+        & fits(r.export_type, fields::TYPE)
+        & fits(r.rw_gpr, fields::RW_GPR)
+        & fits(r.rw_rel, fields::RW_REL)
+        & fits(r.index_gpr, fields::INDEX_GPR)
+        & fits(r.elem_size, fields::ELEM_SIZE)
 }
 
 // CF_ALLOC_EXPORT_WORD1_SWIZ.
@@ -74,17 +75,17 @@ pub fn read_word1(w: u32) -> CfAllocExportWord1Swiz
     ensures { λ r. ⌜ r ≡ format.word1Of w ⌝ }
 {
     CfAllocExportWord1Swiz {
-        sel_x: field(w, 0, 3),
-        sel_y: field(w, 3, 3),
-        sel_z: field(w, 6, 3),
-        sel_w: field(w, 9, 3),
-        rest: field(w, 12, 5),
-        burst_count: field(w, 17, 4),
-        end_of_program: field(w, 21, 1),
-        valid_pixel_mode: field(w, 22, 1),
-        cf_inst: field(w, 23, 7),
-        whole_quad_mode: field(w, 30, 1),
-        barrier: field(w, 31, 1),
+        sel_x: read(w, fields::SEL_X),
+        sel_y: read(w, fields::SEL_Y),
+        sel_z: read(w, fields::SEL_Z),
+        sel_w: read(w, fields::SEL_W),
+        rest: read(w, fields::BITS_16_12),
+        burst_count: read(w, fields::BURST_COUNT),
+        end_of_program: read(w, fields::END_OF_PROGRAM),
+        valid_pixel_mode: read(w, fields::VALID_PIXEL_MODE),
+        cf_inst: read(w, fields::CF_INST),
+        whole_quad_mode: read(w, fields::WHOLE_QUAD_MODE),
+        barrier: read(w, fields::BARRIER),
     }
 }
 
@@ -92,32 +93,32 @@ pub fn read_word1(w: u32) -> CfAllocExportWord1Swiz
 pub fn write_word1(r: CfAllocExportWord1Swiz) -> u32
     ensures { λ w. ⌜ w ≡ wordOf format.word1Table (format.word1Values r) ⌝ }
 {
-    place(r.sel_x, 0, 3)
-        | place(r.sel_y, 3, 3)
-        | place(r.sel_z, 6, 3)
-        | place(r.sel_w, 9, 3)
-        | place(r.rest, 12, 5)
-        | place(r.burst_count, 17, 4)
-        | place(r.end_of_program, 21, 1)
-        | place(r.valid_pixel_mode, 22, 1)
-        | place(r.cf_inst, 23, 7)
-        | place(r.whole_quad_mode, 30, 1)
-        | place(r.barrier, 31, 1)
+    put(r.sel_x, fields::SEL_X)
+        | put(r.sel_y, fields::SEL_Y)
+        | put(r.sel_z, fields::SEL_Z)
+        | put(r.sel_w, fields::SEL_W)
+        | put(r.rest, fields::BITS_16_12)
+        | put(r.burst_count, fields::BURST_COUNT)
+        | put(r.end_of_program, fields::END_OF_PROGRAM)
+        | put(r.valid_pixel_mode, fields::VALID_PIXEL_MODE)
+        | put(r.cf_inst, fields::CF_INST)
+        | put(r.whole_quad_mode, fields::WHOLE_QUAD_MODE)
+        | put(r.barrier, fields::BARRIER)
 }
 
 // Whether each field is within its width.
 pub fn word1_fits(r: CfAllocExportWord1Swiz) -> bool
     ensures { λ ok. ⌜ ok ≡ fitsTable format.word1Table (format.word1Values r) ⌝ }
 {
-    (r.sel_x < 0x8)
-        & (r.sel_y < 0x8)
-        & (r.sel_z < 0x8)
-        & (r.sel_w < 0x8)
-        & (r.rest < 0x20)
-        & (r.burst_count < 0x10)
-        & (r.end_of_program < 0x2)
-        & (r.valid_pixel_mode < 0x2)
-        & (r.cf_inst < 0x80)
-        & (r.whole_quad_mode < 0x2)
-        & (r.barrier < 0x2)
+    fits(r.sel_x, fields::SEL_X)
+        & fits(r.sel_y, fields::SEL_Y)
+        & fits(r.sel_z, fields::SEL_Z)
+        & fits(r.sel_w, fields::SEL_W)
+        & fits(r.rest, fields::BITS_16_12)
+        & fits(r.burst_count, fields::BURST_COUNT)
+        & fits(r.end_of_program, fields::END_OF_PROGRAM)
+        & fits(r.valid_pixel_mode, fields::VALID_PIXEL_MODE)
+        & fits(r.cf_inst, fields::CF_INST)
+        & fits(r.whole_quad_mode, fields::WHOLE_QUAD_MODE)
+        & fits(r.barrier, fields::BARRIER)
 }

@@ -1,12 +1,13 @@
 -- Grants by what the code tests, and a name read off a list of granted ones. Assumes nothing.
 use mathlib.Core.Path.{_≡_, refl, sym, ap, _∙_}
-use mathlib.Core.Bool.{Bool, true, false, cond, _&&_, _||_, and-true}
+use mathlib.Core.Bool.{Bool, true, false, cond, _&&_, _||_, and-true, and-false, and-assoc, or-true, or-false}
 use mathlib.Core.List.{List, [], _∷_, _++_, List·Memᴰ, List·Memᴰ·not-nil, List·Memᴰ·cases-cons}
 use mathlib.Core.Logic.{⊎-elim}
 use Prim.Native.Nat.{ℕ, _+_, _-_, _≤_, _<_, min}
 use native.Mathlib.Omega.{arith}
 use lib.Dec.{eqb, ltb, leb}
 use borrow.Author.Tests.{lt-ltb, le-ltb, le-leb, lt-leb, ltb-true, ltb-false, leb-true, leb-false, eq-eqb, ne-eqb}
+use Rattle.laws.proofs.OfTests.{both, same-test}
 use Rattle.grants.specs.declared.Limits.{Limits}
 use Rattle.grants.specs.Grants.{Name, aluRegister, locked, granted, allGranted, sourceNames}
 
@@ -23,58 +24,32 @@ locked-all m h k = rw (ne-eqb m 0 h, ne-eqb m 1 k)
 
 -- ---- a list
 
-first-of : (a b : Bool) → a && b ≡ true → a ≡ true
-first-of true b h = refl
-first-of false b h = h
-
-rest-of : (a b : Bool) → a && b ≡ true → b ≡ true
-rest-of true b h = h
-rest-of false b h = let z : _≡_ {A = ℕ} 0 1 = cc in absurd (omega arith)
-
 -- each name of a list whose names are all granted is granted
 pub each-granted : (l : Limits) (ns : List Name) → allGranted l ns ≡ true → (n : Name) → List·Memᴰ n ns → granted l n ≡ true
 each-granted l [] h n m = absurd (List·Memᴰ·not-nil m)
 each-granted l (k ∷ ns) h n m =
-    ⊎-elim (λ e. ap (granted l) e ∙ first-of (granted l k) (allGranted l ns) h)
-    (λ t. each-granted l ns (rest-of (granted l k) (allGranted l ns) h) n t)
-    (List·Memᴰ·cases-cons m)
+    let b = both (granted l k) (allGranted l ns) h in
+    ⊎-elim (λ e. ap (granted l) e ∙ b .0) (λ t. each-granted l ns (b .1) n t) (List·Memᴰ·cases-cons m)
 
 -- two lists joined: the first decides where it is not granted, else the second
-granted-joined : (l : Limits) (a b : List Name) → allGranted l (a ++ b) ≡ allGranted l a && allGranted l b
-granted-joined l [] b = refl
-granted-joined l (n ∷ a) b = by (granted l n) (granted-joined l a b)
-  where
-    by :
-        (t : Bool) → allGranted l (a ++ b) ≡ allGranted l a && allGranted l b
-        → t && allGranted l (a ++ b) ≡ t && allGranted l a && allGranted l b
-    by true h = h
-    by false h = refl
+pub all-joined : (l : Limits) (a b : List Name) → allGranted l (a ++ b) ≡ allGranted l a && allGranted l b
+all-joined l [] b = refl
+all-joined l (n ∷ a) b =
+    ap (λ (t : Bool). granted l n && t) (all-joined l a b) ∙ sym (and-assoc (granted l n) (allGranted l a) (allGranted l b))
 
 pub joined-refused : (l : Limits) (a b : List Name) → allGranted l a ≡ false → allGranted l (a ++ b) ≡ false
-joined-refused l a b h = granted-joined l a b ∙ ap (λ (t : Bool). t && allGranted l b) h
+joined-refused l a b h = all-joined l a b ∙ ap (λ (t : Bool). t && allGranted l b) h
 
 pub joined-passed : (l : Limits) (a b : List Name) → allGranted l a ≡ true → allGranted l (a ++ b) ≡ allGranted l b
-joined-passed l a b h = granted-joined l a b ∙ ap (λ (t : Bool). t && allGranted l b) h
-
--- two lists together
-pub all-joined : (l : Limits) (a b : List Name) → allGranted l (a ++ b) ≡ (allGranted l a && allGranted l b)
-all-joined l [] b = refl
-all-joined l (n ∷ a) b = by (granted l n) (all-joined l a b)
-  where
-    by :
-        (t : Bool) → allGranted l (a ++ b) ≡ (allGranted l a && allGranted l b)
-        → (t && allGranted l (a ++ b)) ≡ ((t && allGranted l a) && allGranted l b)
-    by true h = h
-    by false h = refl
+joined-passed l a b h = all-joined l a b ∙ ap (λ (t : Bool). t && allGranted l b) h
 
 -- ---- tests without a branch
 
 pub temps-side : (r t : ℕ) → leb 128 (r + t) ≡ leb (128 - t) r
-temps-side r t = by (leb (128 - t) r) refl
-  where
-    by : (b : Bool) → leb (128 - t) r ≡ b → leb 128 (r + t) ≡ b
-    by true e = le-leb 128 (r + t) (omega (arith, leb-true (128 - t) r e))
-    by false e = lt-leb 128 (r + t) (omega (arith, leb-false (128 - t) r e))
+temps-side r t =
+    same-test (leb 128 (r + t)) (leb (128 - t) r)
+    (λ e. le-leb 128 (r + t) (omega (arith, leb-true (128 - t) r e)))
+    (λ e. lt-leb 128 (r + t) (omega (arith, leb-false (128 - t) r e)))
 
 pub locked-most : (m : ℕ) → locked m ≤ 32
 locked-most m = by (eqb m 0) (eqb m 1)
@@ -84,42 +59,23 @@ locked-most m = by (eqb m 0) (eqb m 1)
     by false true = omega arith
     by false false = omega arith
 
-or-nothing : (b : Bool) → (b || false) ≡ (b && true)
-or-nothing true = refl
-or-nothing false = refl
-
 same-bound : (s k n : ℕ) → k ≤ s → ltb s (k + n) ≡ ltb (s - k) n
-same-bound s k n l = by (ltb (s - k) n) refl
-  where
-    by : (b : Bool) → ltb (s - k) n ≡ b → ltb s (k + n) ≡ b
-    by true e = lt-ltb s (k + n) (omega (arith, ltb-true (s - k) n e))
-    by false e = le-ltb s (k + n) (omega (arith, ltb-false (s - k) n e))
-
-drop-two : (b : Bool) → ((b || false) || false) ≡ (b && true)
-drop-two true = refl
-drop-two false = refl
-
-or-kept : (b : Bool) → (b || true) ≡ true
-or-kept true = refl
-or-kept false = refl
+same-bound s k n l =
+    same-test (ltb s (k + n)) (ltb (s - k) n)
+    (λ e. lt-ltb s (k + n) (omega (arith, ltb-true (s - k) n e)))
+    (λ e. le-ltb s (k + n) (omega (arith, ltb-false (s - k) n e)))
 
 -- a bound of at least 128 lets every register through
 least-bound : (s g : ℕ) → s < 128 → ltb s (min g 128) ≡ ltb s g
-least-bound s g h = by (ltb s g) refl
-  where
-    by : (b : Bool) → ltb s g ≡ b → ltb s (min g 128) ≡ b
-    by true e = lt-ltb s (min g 128) (omega (arith, ltb-true s g e))
-    by false e = le-ltb s (min g 128) (omega (arith, ltb-false s g e))
+least-bound s g h =
+    same-test (ltb s (min g 128)) (ltb s g)
+    (λ e. lt-ltb s (min g 128) (omega (arith, ltb-true s g e)))
+    (λ e. le-ltb s (min g 128) (omega (arith, ltb-false s g e)))
 
 register-test :
     (l : Limits) (s : ℕ) → s < 128
     → ((ltb s (min (l .gprs) 128) || (leb (128 - l .temps) s && true)) || false) ≡ (granted l (aluRegister s) && true)
-register-test l s h = rw (least-bound s (l .gprs) h) (by (ltb s (l .gprs)) (leb (128 - l .temps) s))
-  where
-    by : (a b : Bool) → ((a || (b && true)) || false) ≡ ((a || b) && true)
-    by true b = refl
-    by false true = refl
-    by false false = refl
+register-test l s h = rw (least-bound s (l .gprs) h) (simp (and-true, or-false))
 
 module _ (l : Limits) (s : ℕ) where
   -- a source by a test for each kind, of which at most one can hold
@@ -130,11 +86,7 @@ module _ (l : Limits) (s : ℕ) where
       || ((leb 192 s && ltb s 256) || (leb 256 s && ltb s (256 + l .consts))))
 
   no-register : 128 ≤ s → (ltb s (min (l .gprs) 128) || (leb (128 - l .temps) s && ltb s 128)) ≡ false
-  no-register h = rw (le-ltb s (min (l .gprs) 128) (omega arith), le-ltb s 128 h) (and-none (leb (128 - l .temps) s))
-    where
-      and-none : (b : Bool) → (b && false) ≡ false
-      and-none true = refl
-      and-none false = refl
+  no-register h = rw (le-ltb s (min (l .gprs) 128) (omega arith), le-ltb s 128 h) (and-false (leb (128 - l .temps) s))
 
   in-order :
       (a : Bool) → ltb s 128 ≡ a → (b : Bool) → ltb s 160 ≡ b → (d : Bool) → ltb s 192 ≡ d → (e : Bool) → ltb s 256 ≡ e
@@ -148,17 +100,17 @@ module _ (l : Limits) (s : ℕ) where
       let h = ltb-true s 160 p in
       rw
       (no-register g, a, p, le-leb 128 s (omega arith), lt-leb 160 s (omega arith), lt-leb 192 s (omega arith), lt-leb 256 s (omega arith), same-bound s 128 (locked (l .mode0)) g)
-      (drop-two (ltb (s - 128) (locked (l .mode0))))
+      (simp (and-true, or-false))
   in-order false a false p true q e r =
       let g = ltb-false s 160 p in
       let h = ltb-true s 192 q in
       rw
       (no-register (omega arith), a, p, q, le-leb 128 s (omega arith), le-ltb s (128 + locked (l .mode0)) (omega (arith, locked-most (l .mode0))), le-leb 160 s (omega arith), lt-leb 192 s (omega arith), lt-leb 256 s (omega arith), same-bound s 160 (locked (l .mode1)) g)
-      (or-nothing (ltb (s - 160) (locked (l .mode1))))
+      (simp (and-true, or-false))
   in-order false a false p false q true r =
       let g = ltb-false s 192 q in
       rw (no-register (omega arith), a, p, q, r, le-leb 192 s g)
-      (or-kept ((leb 128 s && ltb s (128 + locked (l .mode0))) || (leb 160 s && ltb s (160 + locked (l .mode1)))))
+      (or-true ((leb 128 s && ltb s (128 + locked (l .mode0))) || (leb 160 s && ltb s (160 + locked (l .mode1)))))
   in-order false a false p false q false r =
       let g = ltb-false s 256 r in
       rw

@@ -42,7 +42,7 @@ pub fn locked_by(mode: u32) -> u32
 fn register_bound(gprs: u32) -> usize
     ensures { λ r. ⌜ r ≡ min gprs 128 ⌝ }
 {
-    if gprs < 128 { gprs as usize } else { 128 }
+    units::smaller(gprs as usize, 128)
 }
 
 // The lowest clause temporary.

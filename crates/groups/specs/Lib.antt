@@ -1,3 +1,3 @@
--- The root of what the contracts cite.
+-- The root of what the contracts cite. Group is what a reader has to believe; Code is for the code alone.
 pub mod Group
-pub mod Seen
+pub mod Code

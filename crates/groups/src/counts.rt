@@ -1,6 +1,6 @@
 // None, one or several: all that rule 14 and PUSH_BEFORE ask of a number.
 ghost use mathlib.Core.Path.{_≡_};
-ghost use Rattle.groups.specs.Seen.{countedIf, together, isOne, isSeveral};
+ghost use Rattle.groups.specs.Code.{countedIf, together, isOne, isSeveral};
 
 pub enum Count {
     Nothing,

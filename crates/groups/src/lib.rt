@@ -5,16 +5,16 @@
 pub mod alu_units;
 pub mod counts;
 
-use bits::field;
-use checks::Rule;
+use bits::read;
 use counts::Count;
+use formats::fields;
 use grants::Limits;
 use instructions::class_of;
 use opcodes::alu::Issue;
+use opcodes::alu::is_issue;
 use units::Slots;
 ghost use mathlib.Core.Path.{_≡_};
-ghost use Rattle.groups.specs.Group as group;
-ghost use Rattle.groups.specs.Seen as seen_spec;
+ghost use Rattle.groups.specs.Code as code;
 
 // The first instruction of a group that breaks a rule, by how many slots it lies behind the group's first.
 pub enum First {
@@ -51,12 +51,12 @@ pub struct Seen {
 // What a group breaks, and how many slots behind its first.
 pub enum GroupFault {
     Clean,
-    Broken(Rule, Slots),
+    Broken(u8, Slots),
 }
 
 // Nothing read yet.
 pub fn none_seen() -> Seen
-    ensures { λ r. ⌜ r ≡ seen_spec.noneSeen ⌝ }
+    ensures { λ r. ⌜ r ≡ code.noneSeen ⌝ }
 {
     Seen {
         literals: 0,
@@ -86,7 +86,7 @@ pub fn read_instruction(
     low: u32,
     high: u32,
 ) -> Seen
-    ensures { λ r. ⌜ r ≡ seen_spec.nextSeen limits j first low high seen ⌝ }
+    ensures { λ r. ⌜ r ≡ code.nextSeen limits j first low high seen ⌝ }
 {
     let class = class_of(high);
     let numbers = seen.numbers;
@@ -95,8 +95,8 @@ pub fn read_instruction(
     let grants = seen.grants;
     let unit_class = class.unit;
     let issue = class.issue;
-    let unit = alu_units::unit_for(seen.taken, unit_class, field(high, 29, 2));
-    let bad_unit = alu_units::is_bad_unit(seen.taken, unit, field(high, 18, 3));
+    let unit = alu_units::unit_for(seen.taken, unit_class, read(high, fields::DST_CHAN));
+    let bad_unit = alu_units::is_bad_unit(seen.taken, unit, read(high, fields::BANK_SWIZZLE));
     let uneven = alu_units::is_uneven(j, unit, first, high);
     let relative = instructions::has_relative(low, high);
     Seen {
@@ -116,33 +116,33 @@ pub fn read_instruction(
 
 // The first broken rule of a group of `size` instructions; `may_kill` where kills may stand.
 pub fn group_fault(seen: Seen, size: Slots, may_kill: bool) -> GroupFault
-    ensures { λ r. ⌜ r ≡ seen_spec.faultOf seen (size .0) «may_kill» ⌝ }
+    ensures { λ r. ⌜ r ≡ code.faultOf seen (size .0) «may_kill» ⌝ }
 {
     let numbers = seen.numbers;
     if let First::At(j) = numbers {
-        return GroupFault::Broken(Rule::AluNumber, j);
+        return GroupFault::Broken(11, j);
     }
     let fields = seen.fields;
     if let First::At(j) = fields {
-        return GroupFault::Broken(Rule::AluField, j);
+        return GroupFault::Broken(12, j);
     }
     let units = seen.units;
     if let First::At(j) = units {
-        return GroupFault::Broken(Rule::UnitTaken, j);
+        return GroupFault::Broken(13, j);
     }
     if is_bad_issue(seen.issues, size, may_kill) {
-        return GroupFault::Broken(Rule::IssueLimit, Slots(0));
+        return GroupFault::Broken(14, Slots(0));
     }
     let grants = seen.grants;
     if let First::At(j) = grants {
-        return GroupFault::Broken(Rule::NotGranted, j);
+        return GroupFault::Broken(15, j);
     }
     GroupFault::Clean
 }
 
 // Rule 14, from its figures.
 pub fn is_bad_issue(issues: Issues, size: Slots, may_kill: bool) -> bool
-    ensures { λ r. ⌜ r ≡ seen_spec.badIssues issues (size .0) «may_kill» ⌝ }
+    ensures { λ r. ⌜ r ≡ code.badIssues issues (size .0) «may_kill» ⌝ }
 {
     let wrong_kill = issues.kill & !may_kill;
     let wrong_mova = issues.mova & issues.relative;
@@ -152,73 +152,25 @@ pub fn is_bad_issue(issues: Issues, size: Slots, may_kill: bool) -> bool
 }
 
 pub fn next_issues(issues: Issues, issue: Issue, relative: bool, uneven: bool) -> Issues
-    ensures { λ r. ⌜ r ≡ seen_spec.nextIssues issues issue relative uneven ⌝ }
+    ensures { λ r. ⌜ r ≡ code.nextIssues issues issue relative uneven ⌝ }
 {
     let setters = issues.setters;
     let issued = issues.issued;
-    let setter = is_setter(issue);
-    let kill = is_kill(issue);
+    let setter = is_issue(issue, Issue::Predicate);
+    let kill = is_issue(issue, Issue::Kill);
     Issues {
         setters: counts::counted_if(setter, setters),
         issued: counts::counted_if(setter | kill, issued),
         kill: issues.kill | kill,
-        mova: issues.mova | is_mova(issue),
+        mova: issues.mova | is_issue(issue, Issue::Mova),
         relative: issues.relative | relative,
-        reduction: issues.reduction | is_reduction(issue),
+        reduction: issues.reduction | is_issue(issue, Issue::Reduction),
         uneven: issues.uneven | uneven,
     }
 }
 
-fn is_setter(issue: Issue) -> bool
-    ensures { λ r. ⌜ r ≡ group.isSetter issue ⌝ }
-{
-    match issue {
-        Issue::Plain => false,
-        Issue::Predicate => true,
-        Issue::Kill => false,
-        Issue::Mova => false,
-        Issue::Reduction => false,
-    }
-}
-
-fn is_kill(issue: Issue) -> bool
-    ensures { λ r. ⌜ r ≡ group.isKill issue ⌝ }
-{
-    match issue {
-        Issue::Plain => false,
-        Issue::Predicate => false,
-        Issue::Kill => true,
-        Issue::Mova => false,
-        Issue::Reduction => false,
-    }
-}
-
-fn is_mova(issue: Issue) -> bool
-    ensures { λ r. ⌜ r ≡ group.isMova issue ⌝ }
-{
-    match issue {
-        Issue::Plain => false,
-        Issue::Predicate => false,
-        Issue::Kill => false,
-        Issue::Mova => true,
-        Issue::Reduction => false,
-    }
-}
-
-fn is_reduction(issue: Issue) -> bool
-    ensures { λ r. ⌜ r ≡ group.isReduction issue ⌝ }
-{
-    match issue {
-        Issue::Plain => false,
-        Issue::Predicate => false,
-        Issue::Kill => false,
-        Issue::Mova => false,
-        Issue::Reduction => true,
-    }
-}
-
 fn or_here(first: First, j: Slots, broken: bool) -> First
-    ensures { λ r. ⌜ r ≡ seen_spec.orHere first j broken ⌝ }
+    ensures { λ r. ⌜ r ≡ code.orHere first j broken ⌝ }
 {
     match first {
         First::Nowhere => {

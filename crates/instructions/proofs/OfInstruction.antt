@@ -6,22 +6,23 @@ use Prim.Native.Nat.{ℕ, max}
 use native.Mathlib.Omega.{arith}
 use lib.Dec.{eqb, ltb, leb}
 use borrow.Author.Tests.{lt-leb, le-leb, ltb-true, ltb-false}
-use Rattle.bits.specs.Fields.{fieldOf}
+use Rattle.formats.specs.Fields.{_of_, «BANK_SWIZZLE», «DST_GPR», «DST_REL», «INDEX_MODE», «OP2_INST», «OP3_INST», «PRED_SEL», «SRC2_CHAN», «SRC2_REL», «SRC2_SEL»}
 use Rattle.opcodes.specs.Alu.{op2Class, op3Class}
 use Rattle.grants.specs.declared.Limits.{Limits}
 use Rattle.grants.specs.Grants.{aluRegister, granted, allGranted, sourceNames}
 use Rattle.grants.proofs.OfGrants.{all-joined}
 use Rattle.instructions.specs.declared.Source.{Source}
-use Rattle.instructions.specs.Instruction.{isOp3, classOf, source0Of, source1Of, source2Of, noSource, thirdOf, isRelative, sourceLiterals, literals, badSource, badField, hasRelative, isWritten, destinationNames, namesOf, named}
+use Rattle.instructions.specs.Instruction.{isOp3, classOf, source0Of, source1Of, source2Of, isRelative, sourceLiterals, literals, badSource, badField, hasRelative, isWritten, destinationNames, namesOf, named}
+use Rattle.instructions.specs.Code.{noSource, thirdOf}
 
 -- ---- the class
 
 module _ (hi : ℕ) where
-  pub class-op3 : isOp3 hi ≡ true → op3Class (fieldOf hi 13 5) ≡ classOf hi
+  pub class-op3 : isOp3 hi ≡ true → op3Class («OP3_INST» of hi) ≡ classOf hi
   unfolding classOf
   class-op3 h = rw h
 
-  pub class-op2 : isOp3 hi ≡ false → op2Class (fieldOf hi 7 11) ≡ classOf hi
+  pub class-op2 : isOp3 hi ≡ false → op2Class («OP2_INST» of hi) ≡ classOf hi
   unfolding classOf
   class-op2 h = rw h
 
@@ -37,8 +38,8 @@ by-third f hi = by (isOp3 hi)
     by false = refl
 
 pub third-made :
-    (hi : ℕ) {b : Bool} {x y z sel rel chan : ℕ} → b ≡ isOp3 hi → x ≡ fieldOf hi 0 9 → sel ≡ cond b x 248 → y ≡ fieldOf hi 9 1
-    → rel ≡ cond b y 0 → z ≡ fieldOf hi 10 2 → chan ≡ cond b z 0 → record { sel = sel; rel = rel; chan = chan } ≡ thirdOf hi
+    (hi : ℕ) {b : Bool} {x y z sel rel chan : ℕ} → b ≡ isOp3 hi → x ≡ «SRC2_SEL» of hi → sel ≡ cond b x 248 → y ≡ «SRC2_REL» of hi
+    → rel ≡ cond b y 0 → z ≡ «SRC2_CHAN» of hi → chan ≡ cond b z 0 → record { sel = sel; rel = rel; chan = chan } ≡ thirdOf hi
 unfolding thirdOf
 third-made hi e x sel y rel z chan =
     (λ n.
@@ -51,7 +52,7 @@ third-made hi e x sel y rel z chan =
   where
     by :
         (b : Bool)
-        → record { sel = cond b (fieldOf hi 0 9) 248; rel = cond b (fieldOf hi 9 1) 0; chan = cond b (fieldOf hi 10 2) 0 } ≡ cond b (source2Of hi) noSource
+        → record { sel = cond b («SRC2_SEL» of hi) 248; rel = cond b («SRC2_REL» of hi) 0; chan = cond b («SRC2_CHAN» of hi) 0 } ≡ cond b (source2Of hi) noSource
     by true = refl
     by false = refl
 
@@ -109,29 +110,29 @@ pub asked : {A : Type 0} (f : Source → A) {s t : Source} {r : A} → s ≡ t �
 asked f e p = p ∙ ap f e
 
 pub destination-tests :
-    (hi : ℕ) (l : Limits) {w : Bool} {x g : ℕ} {ok : Bool} → w ≡ isWritten hi → x ≡ fieldOf hi 28 1 → g ≡ fieldOf hi 21 7
+    (hi : ℕ) (l : Limits) {w : Bool} {x g : ℕ} {ok : Bool} → w ≡ isWritten hi → x ≡ «DST_REL» of hi → g ≡ «DST_GPR» of hi
     → ok ≡ granted l (aluRegister g) → (not (w && eqb x 0) || ok) ≡ allGranted l (destinationNames hi)
 unfolding destinationNames
 destination-tests hi l w x g ok =
     (λ n. not (w n && eqb (x n) 0) || (ok ∙ (λ k. granted l (aluRegister (g k)))) n)
-    ∙ by (isWritten hi && eqb (fieldOf hi 28 1) 0)
+    ∙ by (isWritten hi && eqb («DST_REL» of hi) 0)
   where
     by :
         (t : Bool)
-        → (not t || granted l (aluRegister (fieldOf hi 21 7))) ≡ allGranted l (cond t (aluRegister (fieldOf hi 21 7) ∷ []) [])
-    by true = sym (and-true (granted l (aluRegister (fieldOf hi 21 7))))
+        → (not t || granted l (aluRegister («DST_GPR» of hi))) ≡ allGranted l (cond t (aluRegister («DST_GPR» of hi) ∷ []) [])
+    by true = sym (and-true (granted l (aluRegister («DST_GPR» of hi))))
     by false = refl
 
 module _ (lo hi : ℕ) where
   pub field-tests :
-      {p i z : ℕ} {a b d : Bool} → p ≡ fieldOf lo 29 2 → i ≡ fieldOf lo 26 3 → z ≡ fieldOf hi 18 3 → a ≡ badSource (source0Of lo)
+      {p i z : ℕ} {a b d : Bool} → p ≡ «PRED_SEL» of lo → i ≡ «INDEX_MODE» of lo → z ≡ «BANK_SWIZZLE» of hi → a ≡ badSource (source0Of lo)
       → b ≡ badSource (source1Of lo) → d ≡ badSource (thirdOf hi)
       → (eqb p 1 || (ltb 4 i || (ltb 5 z || (a || (b || d))))) ≡ badField lo hi
   unfolding badField
   field-tests p i z a b d = λ n. eqb (p n) 1 || (ltb 4 (i n) || (ltb 5 (z n) || (a n || (b n || (d ∙ third-bad hi) n))))
 
   pub relative-tests :
-      {x : ℕ} {a b d : Bool} → x ≡ fieldOf hi 28 1 → a ≡ isRelative (source0Of lo) → b ≡ isRelative (source1Of lo)
+      {x : ℕ} {a b d : Bool} → x ≡ «DST_REL» of hi → a ≡ isRelative (source0Of lo) → b ≡ isRelative (source1Of lo)
       → d ≡ isRelative (thirdOf hi) → (not (eqb x 0) || (a || (b || d))) ≡ hasRelative lo hi
   unfolding hasRelative
   relative-tests x a b d = λ n. not (eqb (x n) 0) || (a n || (b n || (d ∙ third-relative hi) n))

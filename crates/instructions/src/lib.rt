@@ -2,7 +2,8 @@
 //
 // Each question is a function of the words, so that a caller reads an instruction's words once and asks what it needs; the compiler
 // shares the shifts and masks. Nothing branches on what a pack holds, since no branch could be foreseen: tests are joined by | and &.
-use bits::field;
+use bits::read;
+use formats::fields;
 use grants::Limits;
 use opcodes::alu::Class;
 ghost use mathlib.Core.Path.{_≡_};
@@ -10,6 +11,7 @@ ghost use Prim.Native.Nat.{max};
 ghost use mathlib.Core.Bool.{cond};
 ghost use Rattle.grants.specs.Grants.{allGranted};
 ghost use Rattle.instructions.specs.Instruction as instruction;
+ghost use Rattle.instructions.specs.Code.{thirdOf};
 
 // A source operand as its format has it.
 pub struct Source {
@@ -21,7 +23,7 @@ pub struct Source {
 pub fn is_op3(high: u32) -> bool
     ensures { λ r. ⌜ r ≡ instruction.isOp3 high ⌝ }
 {
-    field(high, 15, 3) != 0
+    read(high, fields::OP3_MARK) != 0
 }
 
 // The class of the instruction's number.
@@ -29,25 +31,18 @@ pub fn class_of(high: u32) -> Class
     ensures { λ r. ⌜ r ≡ instruction.classOf high ⌝ }
 {
     if is_op3(high) {
-        return opcodes::alu::op3_class(field(high, 13, 5));
+        return opcodes::alu::op3_class(read(high, fields::OP3_INST));
     }
-    opcodes::alu::op2_class(field(high, 7, 11))
-}
-
-// Rule 11.
-pub fn is_bad_number(high: u32) -> bool
-    ensures { λ r. ⌜ r ≡ instruction.badNumber high ⌝ }
-{
-    !opcodes::alu::is_taken(class_of(high))
+    opcodes::alu::op2_class(read(high, fields::OP2_INST))
 }
 
 fn source0(low: u32) -> Source
     ensures { λ r. ⌜ r ≡ instruction.source0Of low ⌝ }
 {
     Source {
-        sel: field(low, 0, 9),
-        rel: field(low, 9, 1),
-        chan: field(low, 10, 2),
+        sel: read(low, fields::SRC0_SEL),
+        rel: read(low, fields::SRC0_REL),
+        chan: read(low, fields::SRC0_CHAN),
     }
 }
 
@@ -55,9 +50,9 @@ fn source1(low: u32) -> Source
     ensures { λ r. ⌜ r ≡ instruction.source1Of low ⌝ }
 {
     Source {
-        sel: field(low, 13, 9),
-        rel: field(low, 22, 1),
-        chan: field(low, 23, 2),
+        sel: read(low, fields::SRC1_SEL),
+        rel: read(low, fields::SRC1_REL),
+        chan: read(low, fields::SRC1_CHAN),
     }
 }
 
@@ -69,13 +64,13 @@ fn chosen(first: bool, a: u32, b: u32) -> u32
 
 // Source 2 of an OP3, and what stands for it in an OP2.
 fn third_source(high: u32) -> Source
-    ensures { λ r. ⌜ r ≡ instruction.thirdOf high ⌝ }
+    ensures { λ r. ⌜ r ≡ thirdOf high ⌝ }
 {
     let op3 = is_op3(high);
     Source {
-        sel: chosen(op3, field(high, 0, 9), 248),
-        rel: chosen(op3, field(high, 9, 1), 0),
-        chan: chosen(op3, field(high, 10, 2), 0),
+        sel: chosen(op3, read(high, fields::SRC2_SEL), 248),
+        rel: chosen(op3, read(high, fields::SRC2_REL), 0),
+        chan: chosen(op3, read(high, fields::SRC2_CHAN), 0),
     }
 }
 
@@ -120,9 +115,9 @@ fn is_bad_source(s: Source) -> bool
 pub fn is_bad_field(low: u32, high: u32) -> bool
     ensures { λ r. ⌜ r ≡ instruction.badField low high ⌝ }
 {
-    let predicate = field(low, 29, 2) == 1;
-    let index = 4 < field(low, 26, 3);
-    let swizzle = 5 < field(high, 18, 3);
+    let predicate = read(low, fields::PRED_SEL) == 1;
+    let index = 4 < read(low, fields::INDEX_MODE);
+    let swizzle = 5 < read(high, fields::BANK_SWIZZLE);
     let first = is_bad_source(source0(low));
     let second = is_bad_source(source1(low));
     let third = is_bad_source(third_source(high));
@@ -133,7 +128,7 @@ pub fn is_bad_field(low: u32, high: u32) -> bool
 pub fn has_relative(low: u32, high: u32) -> bool
     ensures { λ r. ⌜ r ≡ instruction.hasRelative low high ⌝ }
 {
-    let destination = field(high, 28, 1) != 0;
+    let destination = read(high, fields::DST_REL) != 0;
     let first = is_relative(source0(low));
     let second = is_relative(source1(low));
     let third = is_relative(third_source(high));
@@ -143,14 +138,14 @@ pub fn has_relative(low: u32, high: u32) -> bool
 fn is_written(high: u32) -> bool
     ensures { λ r. ⌜ r ≡ instruction.isWritten high ⌝ }
 {
-    is_op3(high) | (field(high, 4, 1) == 1)
+    is_op3(high) | (read(high, fields::WRITE_MASK) == 1)
 }
 
 fn destination_granted(limits: Limits, high: u32) -> bool
     ensures { λ r. ⌜ r ≡ allGranted limits (instruction.destinationNames high) ⌝ }
 {
-    let named = is_written(high) & (field(high, 28, 1) == 0);
-    !named | grants::alu_register_granted(limits, field(high, 21, 7))
+    let named = is_written(high) & (read(high, fields::DST_REL) == 0);
+    !named | grants::alu_register_granted(limits, read(high, fields::DST_GPR))
 }
 
 fn source_granted(limits: Limits, s: Source) -> bool

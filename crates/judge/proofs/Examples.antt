@@ -8,20 +8,20 @@ use Rattle.card.specs.declared.Build.the-variants.{Production}
 use Rattle.card.specs.Card.{cardWith}
 use Rattle.checks.specs.Verdict.{verdictNumber, verdictPlace, verdictSlot}
 use Rattle.checks.specs.Checks.{firstBroken, below}
-use Rattle.judge.specs.Judge.{lineChecks, isPushBefore, fetchKind, clauseChecks, pairChecks, firstChecks, passes, checks, judgement}
-use Rattle.units.specs.Units.{lowAt, highAt}
-use Rattle.control.specs.Control.{isAluOpener, aluControl, cfControl, controlOf, controlAt, isEnd, endFrom, endOf}
-use Rattle.control.specs.Rules.{badLength, noEnd, isNotTaken, badModes, badStill, badBranch, badReserved, badField, aluClause, fetchClause, clauseOf, outside, badRange, pixelTarget, vertexTarget, badTarget, badSelectors, badExportRegister, exportRule, isExport, badExport}
-use Rattle.flow.specs.Flow.{popTo, move, stackOf, stackAt}
-use Rattle.flow.specs.Pairs.{flowOf, flowAt}
-use Rattle.flow.specs.Rules.{lacking, lacksAt, badDepth, leftOver, isLoopEnd, isForward, isBackward, wrongTarget, sameFrame, sameStack, carries, onTop, backTo, endsLoop, differs, badStack, stackChecks, secondChecks}
+use Rattle.judge.specs.Judge.{lineChecks, clauseChecks, rangeChecks, insideChecks, pairChecks, firstChecks, passes, checks, judgement}
+use Rattle.units.specs.Units.{lowAt, highAt, liesIn}
+use Rattle.section.specs.Control.{isAluOpener, controlOf, controlAt, isEnd, endFrom, endOf}
+use Rattle.section.specs.Rules.{badLength, noEnd, isNotTaken, badModes, badStill, badBranch, badReserved, badField, clauseOf, clauseAt, outside, badRange, pixelTarget, vertexTarget, badTarget, badSelectors, badExportRegister, exportRule, badExport}
+use Rattle.walk.specs.Flow.{popTo, move, stackOf, stackAt, flowOf, flowAt}
+use Rattle.opcodes.specs.Numbers.{cf, cfAlu, cfControl, cfAluControl}
+use Rattle.walk.specs.Rules.{lacking, lacksAt, badDepth, leftOver, isLoopEnd, isForward, isBackward, wrongTarget, sameFrame, sameStack, carries, onTop, backTo, endsLoop, differs, badStack, stackChecks, secondChecks}
 use Rattle.opcodes.specs.Alu.{op2, op3, op2Class, op3Class}
 use Rattle.instructions.specs.Instruction.{isOp3, classOf, badNumber, isRelative, sourceLiterals, literals, badSource, hasRelative, isWritten, destinationNames, namesOf, named}
-use Rattle.groups.specs.Group.{countBelow, anyBelow, literalsBelow, isTaken, occupied, isAny, isTrans, unitFor, takenFrom, badUnit, unitOf, takenBefore, unitAt, badUnitAt, isSetter, isKill, isMova, isReduction, setters, settersAndKills, anyKill, anyMova, anyRelative, anyReduction, isAlike, isUneven, anyUneven, badIssue, eachOf, ruleChecks}
-use Rattle.clauses.specs.Clause.{lowOf, highOf, isLast, sizeFrom, sizeOf, spanOf, badShape, groupsFrom, groupsOf, isPixel, groupChecks, checksOf, settersIn, badPush, insideBuffer}
+use Rattle.groups.specs.Group.{countBelow, anyBelow, allBelow, literalsBelow, someUnit, unitFor, unitsBefore, unitAt, badUnit, badUnitAt, issued, isAlike, isFilled, badReduction, badIssue, eachOf, ruleChecks}
+use Rattle.clauses.specs.Clause.{lowOf, highOf, isLast, sizeFrom, sizeOf, spanOf, badShape, groupsFrom, groupsOf, isPixel, groupChecks, checksOf, settersIn, badPush}
 use Rattle.instructions.specs.Instruction as instruction
 use Rattle.clauses.specs.Clause as alu
-use Rattle.flow.specs.Rules as flow
+use Rattle.walk.specs.Rules as flow
 use mathlib.Core.List.{map}
 
 -- all are ps, figures not given are 0: gprs, stack, quads
@@ -72,5 +72,5 @@ abbrev given : Example → List ℕ
 given x = x .answer
 
 table : map judged examples ≡ map given examples
-unfolding lowAt highAt isAluOpener aluControl cfControl controlOf controlAt isEnd endFrom endOf badLength noEnd isNotTaken badModes badStill badBranch badReserved badField aluClause fetchClause clauseOf outside badRange pixelTarget vertexTarget badTarget badSelectors badExportRegister exportRule isExport badExport popTo move stackOf stackAt flowOf flowAt lacking lacksAt badDepth leftOver isLoopEnd isForward isBackward wrongTarget sameFrame sameStack carries onTop backTo endsLoop differs badStack stackChecks secondChecks op2 op3 op2Class op3Class isOp3 classOf badNumber isRelative sourceLiterals literals badSource hasRelative isWritten destinationNames namesOf named countBelow anyBelow literalsBelow isTaken occupied isAny isTrans unitFor takenFrom badUnit unitOf takenBefore unitAt badUnitAt isSetter isKill isMova isReduction setters settersAndKills anyKill anyMova anyRelative anyReduction isAlike isUneven anyUneven badIssue eachOf ruleChecks lowOf highOf isLast sizeFrom sizeOf spanOf badShape groupsFrom groupsOf isPixel groupChecks checksOf settersIn badPush insideBuffer instruction.badField alu.clauseChecks flow.badTarget firstBroken below lineChecks isPushBefore fetchKind clauseChecks pairChecks firstChecks passes checks judgement examples
+unfolding lowAt highAt isAluOpener cfAluControl cfAlu cfControl cf controlOf controlAt isEnd endFrom endOf badLength noEnd isNotTaken badModes badStill badBranch badReserved badField clauseAt clauseOf outside badRange pixelTarget vertexTarget badTarget badSelectors badExportRegister exportRule badExport popTo move stackOf stackAt flowOf flowAt lacking lacksAt badDepth leftOver isLoopEnd isForward isBackward wrongTarget sameFrame sameStack carries onTop backTo endsLoop differs badStack stackChecks secondChecks op2 op3 op2Class op3Class isOp3 classOf badNumber isRelative sourceLiterals literals badSource hasRelative isWritten destinationNames namesOf named countBelow anyBelow allBelow literalsBelow someUnit unitFor unitsBefore unitAt badUnit badUnitAt issued isAlike isFilled badReduction badIssue eachOf ruleChecks lowOf highOf isLast sizeFrom sizeOf spanOf badShape groupsFrom groupsOf isPixel groupChecks checksOf settersIn badPush liesIn instruction.badField alu.clauseChecks flow.badTarget firstBroken below lineChecks clauseChecks rangeChecks insideChecks pairChecks firstChecks passes checks judgement examples
 table = refl

@@ -1,5 +1,6 @@
--- Every place and slot that a verdict can name is below 2^16: a line of the card is at most 7, a quadword of the section at most 512, and
--- a clause has at most 128 slots. By a walk over the lists of checks, which says nothing of when a check is broken. Assumes nothing.
+-- What a verdict can name: a number from 1 to 255 where it refuses, and a place and a slot below 2^16, since a line of the card is at most
+-- 7, a quadword of the section at most 512, and a clause has at most 128 slots. By a walk over the lists of checks, which says nothing of
+-- when a check is broken. Assumes nothing.
 use Prim.Native.Nat.{ℕ, zero, suc, _≤_, _<_, _^_}
 use mathlib.Core.Path.{_≡_, refl, subst}
 use mathlib.Core.Bool.{Bool, true, false, cond}
@@ -10,13 +11,11 @@ use native.Mathlib.Omega.{arith}
 use borrow.Author.Tests.{ltb-true}
 use Rattle.units.specs.declared.Quadwords.{Quadwords}
 use Rattle.units.specs.declared.Slots.{Slots}
-use Rattle.units.specs.Units.{quadwords, slots, isSlotBelow}
-use Rattle.checks.specs.declared.Rule.{Rule}
-use Rattle.checks.specs.declared.Rule.the-variants.{CardLine}
-use Rattle.checks.specs.declared.Place.the-variants.{Line, Quadword}
+use Rattle.units.specs.Units.{quadwords, slots, slotsLength, fetchesLength, liesIn, isSlotBelow}
+use Rattle.checks.specs.declared.Place.the-variants.{Whole, Line, Quadword}
 use Rattle.checks.specs.declared.Verdict.{Verdict}
 use Rattle.checks.specs.declared.Verdict.the-variants.{Accepted, Refused}
-use Rattle.checks.specs.Verdict.{lineOrQuadword, verdictPlace, verdictSlot}
+use Rattle.checks.specs.Verdict.{lineOrQuadword, verdictNumber, verdictPlace, verdictSlot}
 use Rattle.checks.specs.Checks.{Check, check, below}
 use Rattle.card.specs.declared.Card.{Card}
 use Rattle.card.specs.declared.CardRead.{CardRead}
@@ -25,40 +24,49 @@ use Rattle.card.specs.declared.Kind.{Kind}
 use Rattle.card.specs.Text.{wordIn, numberIn}
 use Rattle.card.specs.Card.{kinds, builds, gprsAllowed, tempsAllowed, constsAllowed, stackAllowed, quadsAllowed, lineSays, judged, _>>=_, figureTests, cardOf}
 use Rattle.grants.specs.declared.Limits.{Limits}
-use Rattle.fetches.specs.declared.FetchKind.{FetchKind}
 use Rattle.fetches.specs.Fetches as fetches
 use Rattle.groups.specs.Group.{PerInstruction, eachOf, ruleChecks}
 use Rattle.clauses.specs.Clause as alu
 use Rattle.clauses.proofs.OfRead.{size-few}
-use Rattle.control.specs.declared.Control.{Control}
-use Rattle.control.specs.declared.Clause.{Clause}
-use Rattle.control.specs.declared.Clause.the-variants.{NoClause, AluClause, FetchClause}
-use Rattle.control.specs.declared.family.Family.{Family}
-use Rattle.control.specs.declared.family.Family.the-variants as family
-use Rattle.control.specs.Control.{endOf}
-use Rattle.control.specs.Rules.{familyOf, aluClause, fetchClause, clauseIn, clauseOf}
-use Rattle.control.proofs.OfEnd.{end-at-most}
-use Rattle.flow.specs.declared.Flow.{Flow}
-use Rattle.flow.specs.Rules.{stackChecks, secondChecks}
-use Rattle.judge.specs.Judge.{lineChecks, clauseChecks, pairChecks, firstChecks, passes, checks, judgement, readJudgement, judgementOfBytes}
+use Rattle.opcodes.specs.declared.cf.FetchKind.{FetchKind}
+use Rattle.opcodes.specs.declared.cf.Control.{Control}
+use Rattle.opcodes.specs.declared.cf.Control.the-variants.{NotTaken, Nop, Fetch, Branch, Export, Alu}
+use Rattle.section.specs.declared.Clause.{Clause}
+use Rattle.section.specs.declared.Clause.the-variants.{NoClause, AluClause, FetchClause}
+use Rattle.section.specs.Control.{controlAt, endOf}
+use Rattle.section.specs.Rules.{badLength, noEnd, clauseOf, clauseAt}
+use Rattle.section.proofs.OfEnd.{end-at-most}
+use Rattle.walk.specs.declared.Flow.{Flow}
+use Rattle.walk.specs.Rules.{stackChecks, secondChecks}
+use Rattle.judge.specs.Judge.{lineChecks, clauseChecks, rangeChecks, insideChecks, pairChecks, firstChecks, passes, checks, judgement, readJudgement, judgementOfBytes}
 use Rattle.judge.proofs.OfJudge.{judged-refused}
 
--- 16 bits hold the verdict's place and its slot
+-- the verdict's number, place and slot as numbers of few bits; only an accepted pack has the number 0
 pub record Narrow (v : Verdict) : Type 0 where
+  pub number : verdictNumber v < 2 ^ 8
+  pub refused : verdictNumber v ≡ 0 → v ≡ Accepted
   pub place : verdictPlace v < 2 ^ 16
   pub slot : verdictSlot v < 2 ^ 16
 
 -- ---- lists of checks
 
+-- a rule's number
+abbrev Numbered : ℕ → Type 0
+Numbered r = (0 < r) × (r < 2 ^ 8)
+
+record NarrowCheck (c : Check) : Type 0 where
+  rule : Numbered (c .rule)
+  place : lineOrQuadword (c .place) < 2 ^ 16
+  slot : c .slot .0 < 2 ^ 16
+
 -- the same of each check of a list
 data AllNarrow : List Check → Type 0 where
   empty : AllNarrow []
-  more :
-      {c : Check} {cs : List Check} → lineOrQuadword (c .place) < 2 ^ 16 → c .slot .0 < 2 ^ 16 → AllNarrow cs → AllNarrow (c ∷ cs)
+  more : {c : Check} {cs : List Check} → NarrowCheck c → AllNarrow cs → AllNarrow (c ∷ cs)
 
 joined : {a b : List Check} → AllNarrow a → AllNarrow b → AllNarrow (a ++ b)
 joined empty k = k
-joined (more p s h) k = more p s (joined h k)
+joined (more c h) k = more c (joined h k)
 
 in-row : (f : ℕ → List Check) (n : ℕ) → ((i : ℕ) → i < n → AllNarrow (f i)) → AllNarrow (below f n)
 unfolding below
@@ -70,35 +78,35 @@ if-asked true h = h
 if-asked false h = empty
 
 -- a check inside of a list
-inside-list : (a b : List Check) (c : Check) → AllNarrow (a ++ (c ∷ b)) → (lineOrQuadword (c .place) < 2 ^ 16) × (c .slot .0 < 2 ^ 16)
-inside-list [] b c (more p s h) = (p, s)
-inside-list (d ∷ a) b c (more p s h) = inside-list a b c h
+inside-list : (a b : List Check) (c : Check) → AllNarrow (a ++ (c ∷ b)) → NarrowCheck c
+inside-list [] b c (more n h) = n
+inside-list (d ∷ a) b c (more n h) = inside-list a b c h
 
 -- ---- a clause has at most 128 slots or fetches: COUNT has 7 bits or 4
 
 abbrev Few : Clause → Type 0
 Few NoClause = Unit {0}
-Few (AluClause s n) = n .0 ≤ 128
-Few (FetchClause s n) = n .0 ≤ 128
-
-few-in : (u : Family) (lo hi : ℕ) → Few (clauseIn u lo hi)
-unfolding aluClause fetchClause
-few-in family.Unknown lo hi = tt
-few-in family.Idle lo hi = tt
-few-in family.Fetch lo hi = omega arith
-few-in family.Branch lo hi = tt
-few-in family.Exports lo hi = tt
-few-in family.CfAlu lo hi = omega arith
+Few (AluClause s n push mode0 mode1) = n .0 ≤ 128
+Few (FetchClause s n kind) = n .0 ≤ 128
 
 few-slots : (c : Control) (lo hi : ℕ) → Few (clauseOf c lo hi)
 unfolding clauseOf
-few-slots c lo hi = few-in (familyOf c) lo hi
+few-slots NotTaken lo hi = tt
+few-slots Nop lo hi = tt
+few-slots (Fetch kind) lo hi = omega arith
+few-slots (Branch b) lo hi = tt
+few-slots Export lo hi = tt
+few-slots (Alu push pops) lo hi = omega arith
 
 -- ---- the checks at one place
 
 module _ (place : Quadwords) (near : place .0 < 2 ^ 16) where
-  at : {r : Rule} {b : Bool} {cs : List Check} (s : Slots) → s .0 < 2 ^ 16 → AllNarrow cs → AllNarrow (check r (Quadword place) s b ∷ cs)
-  at s l h = more near l h
+  at : (r : ℕ) {b : Bool} {cs : List Check} (s : Slots) → Numbered r → s .0 < 2 ^ 16 → AllNarrow cs → AllNarrow (check r (Quadword place) s b ∷ cs)
+  at r {b} s n l h = more {c = check r (Quadword place) s b} (record { rule = n; place = near; slot = l }) h
+
+  -- of the pair as a whole
+  of-pair : (r : ℕ) {b : Bool} {cs : List Check} → Numbered r → AllNarrow cs → AllNarrow (check r (Quadword place) (slots 0) b ∷ cs)
+  of-pair r n h = at r (slots 0) n (omega arith) h
 
   -- 8 and 9
   in-fetches :
@@ -106,14 +114,14 @@ module _ (place : Quadwords) (near : place .0 < 2 ^ 16) where
       → AllNarrow (fetches.clauseChecks kind limits w place s n)
   unfolding fetches.clauseChecks fetches.fetchChecks
   in-fetches kind limits w s n few =
-      if-asked (fetches.insideBuffer _ s n)
+      if-asked (liesIn _ s (fetchesLength n))
       (in-row (fetches.fetchChecks kind limits w place s) (n .0)
-      (λ i l. at _ (omega arith) (at _ (omega arith) empty)))
+      (λ i l. at 8 _ (omega arith, omega arith) (omega arith) (at 9 _ (omega arith, omega arith) (omega arith) empty)))
 
   -- a rule asked of each instruction of a group
-  in-each : (r : Rule) (g : Slots) (f : ℕ → Bool) (m : ℕ) → g .0 < 128 → m ≤ 5 → AllNarrow (eachOf r place g f m)
+  in-each : (r : ℕ) (g : Slots) (f : ℕ → Bool) (m : ℕ) → Numbered r → g .0 < 128 → m ≤ 5 → AllNarrow (eachOf r place g f m)
   unfolding eachOf
-  in-each r g f m inside few = in-row _ m (λ j l. at _ (omega arith) empty)
+  in-each r g f m n inside few = in-row _ m (λ j l. at r _ n (omega arith) empty)
 
   -- 11 to 15
   in-group :
@@ -121,15 +129,16 @@ module _ (place : Quadwords) (near : place .0 < 2 ^ 16) where
       → AllNarrow (ruleChecks place g limits kills lo hi m)
   unfolding ruleChecks
   in-group g limits kills lo hi m inside few =
-      joined (in-each _ g _ m inside few)
-      (joined (in-each _ g _ m inside few)
-      (joined (in-each _ g _ m inside few) (at _ (omega arith) (in-each _ g _ m inside few))))
+      joined (in-each 11 g _ m (omega arith, omega arith) inside few)
+      (joined (in-each 12 g _ m (omega arith, omega arith) inside few)
+      (joined (in-each 13 g _ m (omega arith, omega arith) inside few)
+      (at 14 g (omega arith, omega arith) (omega arith) (in-each 15 g _ m (omega arith, omega arith) inside few))))
 
   module _ (pixel : Bool) (limits : Limits) (w : List ℕ) (s : Quadwords) (n : Slots) (few : n .0 ≤ 128) where
     -- 10, then 11 to 15
     in-shaped : (g : Slots) → g .0 < 128 → AllNarrow (alu.groupChecks pixel limits w place s n g)
     unfolding alu.groupChecks
-    in-shaped g inside = at g (omega arith) (in-group g limits _ _ _ _ inside (size-few _ _ _ .0))
+    in-shaped g inside = at 10 g (omega arith, omega arith) (omega arith) (in-group g limits _ _ _ _ inside (size-few _ _ _ .0))
 
     -- group by group, from slot g on
     in-groups : (k : ℕ) (g : Slots) → AllNarrow (alu.checksOf pixel limits w place s n (alu.groupsFrom w s n k g))
@@ -150,37 +159,37 @@ module _ (place : Quadwords) (near : place .0 < 2 ^ 16) where
       → AllNarrow (alu.clauseChecks kind push limits w place s n)
   unfolding alu.clauseChecks alu.groupsOf
   in-alu kind push limits w s n few =
-      if-asked (alu.insideBuffer _ s n)
-      (joined (in-groups _ limits w s n few (n .0) (slots 0)) (at (slots 0) (omega arith) empty))
+      if-asked (liesIn _ s (slotsLength n))
+      (joined (in-groups _ limits w s n few (n .0) (slots 0)) (of-pair 14 (omega arith, omega arith) empty))
 
   -- 8 to 15
-  in-clause : (card : Card) (w : List ℕ) (c : Control) (lo hi : ℕ) (k : Clause) → Few k → AllNarrow (clauseChecks card w place c lo hi k)
+  in-clause : (card : Card) (w : List ℕ) (k : Clause) → Few k → AllNarrow (clauseChecks card w place k)
   unfolding clauseChecks
-  in-clause card w c lo hi NoClause few = empty
-  in-clause card w c lo hi (AluClause s n) few = in-alu _ _ _ w s n few
-  in-clause card w c lo hi (FetchClause s n) few = in-fetches _ _ w s n few
+  in-clause card w NoClause few = empty
+  in-clause card w (AluClause s n push mode0 mode1) few = in-alu _ push _ w s n few
+  in-clause card w (FetchClause s n kind) few = in-fetches kind _ w s n few
 
-  -- 4 to 15
-  in-pair : (card : Card) (w : List ℕ) (e : Quadwords) (c : Control) (lo hi : ℕ) → AllNarrow (pairChecks card w e place c lo hi)
-  unfolding pairChecks
-  in-pair card w e c lo hi =
-      at (slots 0) (omega arith)
-      (at (slots 0) (omega arith)
-      (at (slots 0) (omega arith)
-      (at (slots 0) (omega arith) (in-clause card w c lo hi (clauseOf c lo hi) (few-slots c lo hi)))))
-
-  two : {r s : Rule} {a b : Bool} → AllNarrow (check r (Quadword place) (slots 0) a ∷ check s (Quadword place) (slots 0) b ∷ [])
-  two = at (slots 0) (omega arith) (at (slots 0) (omega arith) empty)
+-- 4 to 6, 7 and the clause
+in-pair : (card : Card) (w : List ℕ) (e p : ℕ) → p < 2 ^ 16 → AllNarrow (pairChecks card w e p)
+unfolding pairChecks rangeChecks insideChecks clauseAt
+in-pair card w e p near =
+    of-pair (quadwords p) near 4 (omega arith, omega arith)
+    (of-pair (quadwords p) near 5 (omega arith, omega arith)
+    (of-pair (quadwords p) near 6 (omega arith, omega arith)
+    (of-pair (quadwords p) near 7 (omega arith, omega arith)
+    (in-clause (quadwords p) near card w (clauseAt w p) (few-slots (controlAt w p) _ _)))))
 
 -- ---- both passes
 
 in-first : (card : Card) (w : List ℕ) (e p : ℕ) → p < 2 ^ 16 → AllNarrow (firstChecks card w e p)
 unfolding firstChecks stackChecks
-in-first card w e p near = joined (in-pair (quadwords p) near card w _ _ _ _) (two (quadwords p) near)
+in-first card w e p near = joined (in-pair card w e p near)
+    (of-pair (quadwords p) near 16 (omega arith, omega arith) (of-pair (quadwords p) near 17 (omega arith, omega arith) empty))
 
 in-second : (e : ℕ) (code : ℕ → Flow) (p : ℕ) → p < 2 ^ 16 → AllNarrow (secondChecks e code p)
 unfolding secondChecks
-in-second e code p near = two (quadwords p) near
+in-second e code p near =
+    of-pair (quadwords p) near 18 (omega arith, omega arith) (of-pair (quadwords p) near 19 (omega arith, omega arith) empty)
 
 in-passes : (card : Card) (w : List ℕ) (e : ℕ) → e ≤ 512 → AllNarrow (passes card w e)
 unfolding passes
@@ -196,26 +205,30 @@ unfolding lineChecks
 in-lines card = line 3 (omega arith) (line 4 (omega arith) (line 5 (omega arith) (line 6 (omega arith) (line 7 (omega arith) empty))))
   where
     line :
-        {b : Bool} {cs : List Check} (n : ℕ) → n < 2 ^ 16 → AllNarrow cs → AllNarrow (check CardLine (Line n) (slots 0) b ∷ cs)
-    line n l h = let z : 0 < 2 ^ 16 = omega arith in more l z h
+        {b : Bool} {cs : List Check} (n : ℕ) → n < 2 ^ 16 → AllNarrow cs → AllNarrow (check 1 (Line n) (slots 0) b ∷ cs)
+    line {b} n l h =
+        more {c = check 1 (Line n) (slots 0) b} (record { rule = (omega arith, omega arith); place = l; slot = omega arith }) h
 
 in-checks : (card : Card) (w : List ℕ) → AllNarrow (checks card w)
 unfolding checks
 in-checks card w =
     joined (in-lines card)
-    (more (omega arith) (omega arith)
-    (more (omega arith) (omega arith) (in-passes card w (endOf w) (omega (arith, end-at-most w)))))
+    (more {c = check 2 Whole (slots 0) (badLength w (card .quads))}
+    (record { rule = (omega arith, omega arith); place = omega arith; slot = omega arith })
+    (more {c = check 3 Whole (slots 0) (noEnd w)}
+    (record { rule = (omega arith, omega arith); place = omega arith; slot = omega arith })
+    (in-passes card w (endOf w) (omega (arith, end-at-most w)))))
 
 -- a refusal names a check of the list
 judgement-narrow : (card : Card) (w : List ℕ) → Narrow (judgement card w)
 judgement-narrow card w = by (judgement card w) refl
   where
     by : (v : Verdict) → judgement card w ≡ v → Narrow v
-    by Accepted e = record { place = omega arith; slot = omega arith }
+    by Accepted e = record { number = omega arith; refused = λ z. refl; place = omega arith; slot = omega arith }
     by (Refused r p s) e =
         let b = judged-refused card w r p s .0 e in
         let h = inside-list (b .earlier) (b .later) (check r p s true) (subst AllNarrow (b .parts) (in-checks card w)) in
-        record { place = h .0; slot = h .1 }
+        record { number = h .rule .1; refused = λ z. absurd (omega (arith, h .rule .0)); place = h .place; slot = h .slot }
 
 -- the line at fault of a card in bytes
 data Refers : CardRead → Type 0 where
@@ -243,11 +256,12 @@ read-refers bytes =
     (λ stack.
     at-line 7 (lineSays bytes 7 "quads" (numberIn quadsAllowed)) _ (omega arith) (λ quads. whole)))))))
 
--- 16 bits hold the place and the slot of every verdict on a card in bytes
+-- few bits hold the number, the place and the slot of every verdict on a card in bytes
 pub bytes-narrow : (bytes w : List ℕ) → Narrow (judgementOfBytes bytes w)
 unfolding judgementOfBytes
 bytes-narrow bytes w = by (cardOf bytes) (read-refers bytes)
   where
     by : (r : CardRead) → Refers r → Narrow (readJudgement r w)
-    by (read.BadLine n) (bad l) = record { place = l; slot = omega arith }
+    by (read.BadLine n) (bad l) =
+        record { number = omega arith; refused = λ z. absurd (omega arith); place = l; slot = omega arith }
     by (read.Whole card n) whole = judgement-narrow card w

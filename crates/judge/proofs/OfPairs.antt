@@ -1,118 +1,151 @@
--- Rules 4 to 15 at one pair, from what the tests answered. Assumes nothing.
+-- Rules 4 to 15 at one pair, from what the tests answered, and what a pair that breaks none of them is sure of. Assumes nothing.
 use mathlib.Core.Path.{_≡_, sym, ap, _∙_}
 use mathlib.Core.Bool.{Bool, true, false}
 use mathlib.Core.List.{List}
 use Prim.Native.Nat.{ℕ}
 use Rattle.units.specs.declared.Quadwords.{Quadwords}
 use Rattle.units.specs.declared.Slots.{Slots}
-use Rattle.units.specs.Units.{slots}
-use Rattle.checks.specs.declared.Rule.the-variants.{CfNumber, CfField, ClauseRange, ExportField}
+use Rattle.units.specs.Units.{quadwords, slots, lowAt, highAt}
+use Rattle.checks.specs.declared.Place.{Place}
 use Rattle.checks.specs.declared.Place.the-variants.{Quadword}
 use Rattle.checks.specs.declared.Verdict.{Verdict}
 use Rattle.checks.specs.declared.Verdict.the-variants.{Accepted, Refused}
-use Rattle.checks.specs.Checks.{check, firstBroken}
-use Rattle.checks.proofs.OfChecks.{hit, miss}
+use Rattle.checks.specs.Checks.{ofPair, firstBroken}
+use Rattle.checks.proofs.OfChecks.{hit, miss, first-clean, rest-clean, joined-clean, joined-refused}
 use Rattle.card.specs.declared.Card.{Card}
 use Rattle.grants.specs.declared.Limits.{Limits}
-use Rattle.fetches.specs.declared.FetchKind.{FetchKind}
+use Rattle.opcodes.specs.declared.cf.FetchKind.{FetchKind}
 use Rattle.fetches.specs.Fetches as fetches
 use Rattle.clauses.specs.Clause as alu
-use Rattle.control.specs.declared.Control.{Control}
-use Rattle.control.specs.declared.Clause.{Clause}
-use Rattle.control.specs.declared.Clause.the-variants.{NoClause, AluClause, FetchClause}
-use Rattle.control.specs.Rules.{isNotTaken, badField, clauseOf, badRange, badExport}
-use Rattle.judge.specs.Judge.{limitsOf, isPushBefore, fetchKind, clauseChecks, pairChecks}
+use Rattle.section.specs.declared.Clause.{Clause}
+use Rattle.section.specs.declared.Clause.the-variants.{NoClause, AluClause, FetchClause}
+use Rattle.section.specs.Control.{controlAt}
+use Rattle.section.specs.Rules.{isNotTaken, badField, clauseAt, badRange, badExport}
+use Rattle.judge.specs.declared.pairs.Pair.{Pair}
+use Rattle.judge.specs.Judge.{limitsWith, clauseChecks, rangeChecks, insideChecks, pairChecks}
+use Rattle.judge.specs.Code.{pairAt}
 
 -- ---- the clause
 
-module _ (card : Card) (w : List ℕ) (place : Quadwords) (c : Control) (lo hi : ℕ) (clause : Clause) where
-  pub no-clause : clause ≡ NoClause → Accepted ≡ firstBroken (clauseChecks card w place c lo hi clause)
+module _ (card : Card) (w : List ℕ) (place : Quadwords) (clause : Clause) where
+  pub no-clause : clause ≡ NoClause → Accepted ≡ firstBroken (clauseChecks card w place clause)
   unfolding clauseChecks firstBroken
   no-clause e = rw e
 
   pub alu-clause :
-      {limits : Limits} {push : Bool} {v : Verdict} (s : Quadwords) (n : Slots) → clause ≡ AluClause s n
-      → limits ≡ limitsOf card lo hi → push ≡ isPushBefore c
-      → v ≡ firstBroken (alu.clauseChecks (card .kind) push limits w place s n)
-      → v ≡ firstBroken (clauseChecks card w place c lo hi clause)
+      {limits : Limits} {v : Verdict} (s : Quadwords) (n : Slots) (push : Bool) (mode0 mode1 : ℕ) → clause ≡ AluClause s n push mode0 mode1
+      → limits ≡ limitsWith card mode0 mode1 → v ≡ firstBroken (alu.clauseChecks (card .kind) push limits w place s n)
+      → v ≡ firstBroken (clauseChecks card w place clause)
   unfolding clauseChecks
-  alu-clause s n e l p f =
+  alu-clause s n push mode0 mode1 e l f =
       f
-      ∙ (λ i. firstBroken (alu.clauseChecks (card .kind) (p i) (l i) w place s n))
-      ∙ ap (λ (k : Clause). firstBroken (clauseChecks card w place c lo hi k)) (sym e)
+      ∙ (λ i. firstBroken (alu.clauseChecks (card .kind) push (l i) w place s n))
+      ∙ ap (λ (k : Clause). firstBroken (clauseChecks card w place k)) (sym e)
 
   pub fetch-clause :
-      {limits : Limits} {kind : FetchKind} {v : Verdict} (s : Quadwords) (n : Slots) → clause ≡ FetchClause s n
-      → limits ≡ limitsOf card lo hi → kind ≡ fetchKind c → v ≡ firstBroken (fetches.clauseChecks kind limits w place s n)
-      → v ≡ firstBroken (clauseChecks card w place c lo hi clause)
+      {limits : Limits} {v : Verdict} (s : Quadwords) (n : Slots) (kind : FetchKind) → clause ≡ FetchClause s n kind
+      → limits ≡ limitsWith card 0 0 → v ≡ firstBroken (fetches.clauseChecks kind limits w place s n)
+      → v ≡ firstBroken (clauseChecks card w place clause)
   unfolding clauseChecks
-  fetch-clause s n e l k f =
+  fetch-clause s n kind e l f =
       f
-      ∙ (λ i. firstBroken (fetches.clauseChecks (k i) (l i) w place s n))
-      ∙ ap (λ (x : Clause). firstBroken (clauseChecks card w place c lo hi x)) (sym e)
+      ∙ (λ i. firstBroken (fetches.clauseChecks kind (l i) w place s n))
+      ∙ ap (λ (x : Clause). firstBroken (clauseChecks card w place x)) (sym e)
 
--- ---- the pair
+-- ---- 4, 5 and 6
 
-module _ (card : Card) (w : List ℕ) (e place : Quadwords) (c : Control) (lo hi : ℕ) where
-  module _ {a : Bool} (p : a ≡ isNotTaken c) where
-    pub breaks-4 :
-        {v : Verdict} → a ≡ true → v ≡ Refused CfNumber (Quadword place) (slots 0)
-        → v ≡ firstBroken (pairChecks card w e place c lo hi)
-    unfolding pairChecks
-    breaks-4 h f = f ∙ sym (hit (check CfNumber (Quadword place) (slots 0) (isNotTaken c)) _ (sym p ∙ h))
+module _ (card : Card) (w : List ℕ) (e p : ℕ) {pair : Pair} (here : pair ≡ pairAt w p) {a : Bool} (f : a ≡ isNotTaken (pair .control)) where
+  not-taken-is : (t : Bool) → a ≡ t → isNotTaken (controlAt w p) ≡ t
+  not-taken-is t h = sym (f ∙ ap (λ (x : Pair). isNotTaken (x .control)) here) ∙ h
 
-    module _ (h : a ≡ false) {b : Bool} (q : b ≡ badField c hi) where
-      pub breaks-5 :
-          {v : Verdict} → b ≡ true → v ≡ Refused CfField (Quadword place) (slots 0)
-          → v ≡ firstBroken (pairChecks card w e place c lo hi)
-      unfolding pairChecks
-      breaks-5 k f =
-          f
+  pub breaks-4 :
+      {v : Verdict} → a ≡ true → v ≡ Refused 4 (Quadword (quadwords p)) (slots 0) → v ≡ firstBroken (rangeChecks card w e p)
+  unfolding rangeChecks
+  breaks-4 h g = g ∙ sym (hit (ofPair 4 p (isNotTaken (controlAt w p))) _ (not-taken-is true h))
+
+  module _ (h : a ≡ false) {b : Bool} (q : b ≡ badField (pair .control) (pair .high)) where
+    past-4 : (t : Bool) → b ≡ t → badField (controlAt w p) (highAt w p) ≡ t
+    past-4 t k = sym (q ∙ ap (λ (x : Pair). badField (x .control) (x .high)) here) ∙ k
+
+    pub breaks-5 :
+        {v : Verdict} → b ≡ true → v ≡ Refused 5 (Quadword (quadwords p)) (slots 0) → v ≡ firstBroken (rangeChecks card w e p)
+    unfolding rangeChecks
+    breaks-5 k g =
+        g
+        ∙ sym
+        (miss (ofPair 4 p (isNotTaken (controlAt w p))) _ (not-taken-is false h)
+        ∙ hit (ofPair 5 p (badField (controlAt w p) (highAt w p))) _ (past-4 true k))
+
+    module _ (k : b ≡ false) {d : Bool} (s : d ≡ badRange (quadwords e) (card .quads) (pair .clause)) where
+      past-5 : (t : Bool) → d ≡ t → badRange (quadwords e) (card .quads) (clauseAt w p) ≡ t
+      past-5 t l = sym (s ∙ ap (λ (x : Pair). badRange (quadwords e) (card .quads) (x .clause)) here) ∙ l
+
+      pub breaks-6 :
+          {v : Verdict} → d ≡ true → v ≡ Refused 6 (Quadword (quadwords p)) (slots 0) → v ≡ firstBroken (rangeChecks card w e p)
+      unfolding rangeChecks
+      breaks-6 l g =
+          g
           ∙ sym
-          (miss (check CfNumber (Quadword place) (slots 0) (isNotTaken c)) _ (sym p ∙ h)
-          ∙ hit (check CfField (Quadword place) (slots 0) (badField c hi)) _ (sym q ∙ k))
+          (miss (ofPair 4 p (isNotTaken (controlAt w p))) _ (not-taken-is false h)
+          ∙ miss (ofPair 5 p (badField (controlAt w p) (highAt w p))) _ (past-4 false k)
+          ∙ hit (ofPair 6 p (badRange (quadwords e) (card .quads) (clauseAt w p))) _ (past-5 true l))
 
-      module _ (k : b ≡ false) {clause : Clause} (r : clause ≡ clauseOf c lo hi) {d : Bool}
-          (s : d ≡ badRange e (card .quads) clause) where
-        range-is : d ≡ badRange e (card .quads) (clauseOf c lo hi)
-        range-is = s ∙ ap (badRange e (card .quads)) r
+      pub breaks-none : d ≡ false → Accepted ≡ firstBroken (rangeChecks card w e p)
+      unfolding rangeChecks firstBroken
+      breaks-none l = rw (not-taken-is false h, past-4 false k, past-5 false l)
 
-        pub breaks-6 :
-            {v : Verdict} → d ≡ true → v ≡ Refused ClauseRange (Quadword place) (slots 0)
-            → v ≡ firstBroken (pairChecks card w e place c lo hi)
-        unfolding pairChecks
-        breaks-6 l f =
-            f
-            ∙ sym
-            (miss (check CfNumber (Quadword place) (slots 0) (isNotTaken c)) _ (sym p ∙ h)
-            ∙ miss (check CfField (Quadword place) (slots 0) (badField c hi)) _ (sym q ∙ k)
-            ∙ hit (check ClauseRange (Quadword place) (slots 0) (badRange e (card .quads) (clauseOf c lo hi))) _
-            (sym range-is ∙ l))
+-- ---- 7, then the clause
 
-        module _ (l : d ≡ false) {x : Bool} (t : x ≡ badExport c (card .kind) (card .gprs) lo hi) where
-          pub breaks-7 :
-              {v : Verdict} → x ≡ true → v ≡ Refused ExportField (Quadword place) (slots 0)
-              → v ≡ firstBroken (pairChecks card w e place c lo hi)
-          unfolding pairChecks
-          breaks-7 m f =
-              f
-              ∙ sym
-              (miss (check CfNumber (Quadword place) (slots 0) (isNotTaken c)) _ (sym p ∙ h)
-              ∙ miss (check CfField (Quadword place) (slots 0) (badField c hi)) _ (sym q ∙ k)
-              ∙ miss (check ClauseRange (Quadword place) (slots 0) (badRange e (card .quads) (clauseOf c lo hi))) _
-              (sym range-is ∙ l)
-              ∙ hit (check ExportField (Quadword place) (slots 0) (badExport c (card .kind) (card .gprs) lo hi)) _ (sym t ∙ m))
+module _ (card : Card) (w : List ℕ) (p : ℕ) {pair : Pair} (here : pair ≡ pairAt w p) {a : Bool}
+    (f : a ≡ badExport (pair .control) (card .kind) (card .gprs) (pair .low) (pair .high)) where
+  export-is : (t : Bool) → a ≡ t → badExport (controlAt w p) (card .kind) (card .gprs) (lowAt w p) (highAt w p) ≡ t
+  export-is t h = sym (f ∙ ap (λ (x : Pair). badExport (x .control) (card .kind) (card .gprs) (x .low) (x .high)) here) ∙ h
 
-          pub then-clause :
-              {v : Verdict} → x ≡ false → v ≡ firstBroken (clauseChecks card w place c lo hi clause)
-              → v ≡ firstBroken (pairChecks card w e place c lo hi)
-          unfolding pairChecks
-          then-clause m f =
-              f
-              ∙ ap (λ (y : Clause). firstBroken (clauseChecks card w place c lo hi y)) r
-              ∙ sym
-              (miss (check CfNumber (Quadword place) (slots 0) (isNotTaken c)) _ (sym p ∙ h)
-              ∙ miss (check CfField (Quadword place) (slots 0) (badField c hi)) _ (sym q ∙ k)
-              ∙ miss (check ClauseRange (Quadword place) (slots 0) (badRange e (card .quads) (clauseOf c lo hi))) _
-              (sym range-is ∙ l)
-              ∙ miss (check ExportField (Quadword place) (slots 0) (badExport c (card .kind) (card .gprs) lo hi)) _ (sym t ∙ m))
+  pub breaks-7 :
+      {v : Verdict} → a ≡ true → v ≡ Refused 7 (Quadword (quadwords p)) (slots 0) → v ≡ firstBroken (insideChecks card w p)
+  unfolding insideChecks
+  breaks-7 h g = g ∙ sym (hit _ (clauseChecks card w (quadwords p) (clauseAt w p)) (export-is true h))
+
+  pub then-clause :
+      {v : Verdict} → a ≡ false → v ≡ firstBroken (clauseChecks card w (quadwords p) (pair .clause)) → v ≡ firstBroken (insideChecks card w p)
+  unfolding insideChecks
+  then-clause h g =
+      g
+      ∙ ap (λ (x : Pair). firstBroken (clauseChecks card w (quadwords p) (x .clause))) here
+      ∙ sym (miss _ (clauseChecks card w (quadwords p) (clauseAt w p)) (export-is false h))
+
+-- ---- one stretch, and then the next
+
+module _ (card : Card) (w : List ℕ) (e p : ℕ) {u : Verdict} (f : u ≡ firstBroken (rangeChecks card w e p)) where
+  pub opened-refused :
+      {r : ℕ} {at : Place} {slot : Slots} → u ≡ Refused r at slot → Refused r at slot ≡ firstBroken (pairChecks card w e p)
+  unfolding pairChecks
+  opened-refused h = sym (joined-refused (rangeChecks card w e p) (insideChecks card w p) (sym f ∙ h))
+
+  pub then-inside : {v : Verdict} → u ≡ Accepted → v ≡ firstBroken (insideChecks card w p) → v ≡ firstBroken (pairChecks card w e p)
+  unfolding pairChecks
+  then-inside h g = g ∙ sym (joined-clean (rangeChecks card w e p) (insideChecks card w p) (sym f ∙ h))
+
+-- ---- what accepted stretches say, by name
+
+pub record RangeKept (card : Card) (w : List ℕ) (e p : ℕ) : Type 0 where
+  pub taken : isNotTaken (controlAt w p) ≡ false
+  pub fields : badField (controlAt w p) (highAt w p) ≡ false
+  pub range : badRange (quadwords e) (card .quads) (clauseAt w p) ≡ false
+
+pub range-kept : (card : Card) (w : List ℕ) (e p : ℕ) → firstBroken (rangeChecks card w e p) ≡ Accepted → RangeKept card w e p
+unfolding rangeChecks
+range-kept card w e p h =
+    record {
+      taken = first-clean _ _ h;
+      fields = first-clean _ _ (rest-clean _ _ h);
+      range = first-clean _ _ (rest-clean _ _ (rest-clean _ _ h));
+    }
+
+pub record InsideKept (card : Card) (w : List ℕ) (p : ℕ) : Type 0 where
+  pub exported : badExport (controlAt w p) (card .kind) (card .gprs) (lowAt w p) (highAt w p) ≡ false
+  pub clause : firstBroken (clauseChecks card w (quadwords p) (clauseAt w p)) ≡ Accepted
+
+pub inside-kept : (card : Card) (w : List ℕ) (p : ℕ) → firstBroken (insideChecks card w p) ≡ Accepted → InsideKept card w p
+unfolding insideChecks
+inside-kept card w p h = record { exported = first-clean _ _ h; clause = rest-clean _ _ h }

@@ -1,7 +1,7 @@
--- Demand 3: the walk of an accepted pack, along any list of answers, is safe. The flow of control is `flow`'s part; here is what lies at
+-- Demand 3: the walk of an accepted pack, along any list of answers, is safe. The flow of control is `walk`'s part; here is what lies at
 -- each place of the section. Assumes nothing.
 use mathlib.Core.Path.{_≡_, refl, sym, ap, _∙_}
-use mathlib.Core.Bool.{true, false}
+use mathlib.Core.Bool.{Bool, true, false, true≢false}
 use mathlib.Core.List.{List, [], _∷_, _++_, List·Memᴰ, List·Memᴰ·head, List·Memᴰ·tail, List·Memᴰ·not-nil, List·Memᴰ·cases-cons}
 use mathlib.Core.Logic.{_⊎_, inl, inr, ⊎-elim}
 use Prim.Native.Nat.{ℕ, zero, suc, _+_, _*_, _/_, _≤_, _<_}
@@ -11,7 +11,7 @@ use lib.ListN.{length}
 use borrow.Author.Tests.{le-leb}
 use Rattle.units.specs.declared.Quadwords.{Quadwords}
 use Rattle.units.specs.declared.Slots.{Slots}
-use Rattle.units.specs.Units.{quadwords, words, lowAt, highAt, slotsLength, fetchesLength}
+use Rattle.units.specs.Units.{quadwords, words, lowAt, highAt, slotsLength, fetchesLength, liesIn}
 use Rattle.checks.specs.declared.Verdict.the-variants.{Accepted}
 use Rattle.checks.specs.Checks.{firstBroken, below}
 use Rattle.checks.proofs.OfChecks.{first-clean, rest-clean, left-clean, right-clean, below-each}
@@ -22,20 +22,22 @@ use Rattle.fetches.specs.Fetches as fetches
 use Rattle.fetches.proofs.OfClause as of-fetches
 use Rattle.clauses.specs.Clause as alu
 use Rattle.clauses.proofs.OfNames as of-alu
-use Rattle.control.specs.declared.Control.{Control}
-use Rattle.control.specs.declared.Control.the-variants.{NotTaken}
-use Rattle.control.specs.declared.Clause.{Clause}
-use Rattle.control.specs.declared.Clause.the-variants.{NoClause, AluClause, FetchClause}
-use Rattle.control.specs.Control.{controlAt, endOf}
-use Rattle.control.specs.Rules.{isNotTaken, badRange, badExport, exportNames}
-use Rattle.control.proofs.OfEnd.{ends-at}
-use Rattle.control.proofs.OfRules.{length-right, inside, each-export-granted}
-use Rattle.flow.specs.Pairs.{flowAt}
-use Rattle.flow.specs.Rules.{stackChecks, secondChecks}
-use Rattle.flow.specs.Walk.{State, start, walk, Sound}
-use Rattle.flow.proofs.OfWalk.{clean-passes, walk-sound}
-use Rattle.judge.specs.Judge.{lineChecks, limitsOf, isPushBefore, fetchKind, clauseChecks, pairChecks, firstChecks, passes, checks, judgement}
-use Rattle.judge.specs.Safe.{clauseAt, LiesBehind, IsFilled, namesBelow, namesOfEach, clauseNames, namesAt, FirstEnd, Safe, Safely}
+use Rattle.opcodes.specs.declared.cf.FetchKind.{FetchKind}
+use Rattle.opcodes.specs.declared.cf.Control.{Control}
+use Rattle.opcodes.specs.declared.cf.Control.the-variants.{NotTaken}
+use Rattle.section.specs.declared.Clause.{Clause}
+use Rattle.section.specs.declared.Clause.the-variants.{NoClause, AluClause, FetchClause}
+use Rattle.section.specs.Control.{controlAt, endOf}
+use Rattle.section.specs.Rules.{isNotTaken, clauseAt, badRange, exportNames}
+use Rattle.section.proofs.OfEnd.{ends-at}
+use Rattle.section.proofs.OfRules.{length-right, inside, each-export-granted}
+use Rattle.walk.specs.Flow.{flowAt}
+use Rattle.walk.specs.Rules.{stackChecks, secondChecks}
+use Rattle.walk.specs.Walk.{State, start, walk}
+use Rattle.walk.proofs.OfWalk.{Sound, clean-passes, walk-sound}
+use Rattle.judge.specs.Judge.{lineChecks, limitsWith, limitsIn, clauseChecks, rangeChecks, insideChecks, pairChecks, firstChecks, passes, checks, judgement}
+use Rattle.judge.proofs.OfPairs.{RangeKept, range-kept, InsideKept, inside-kept}
+use Rattle.judge.specs.Safe.{LiesBehind, IsFilled, namesBelow, namesOfEach, clauseNames, namesAt, FirstEnd, Safe, Safely}
 
 -- ---- a name in a list of names
 
@@ -68,92 +70,82 @@ module _ {P : Name → Type 0} where
 
 taken-number : (c : Control) → isNotTaken c ≡ false → c ≡ NotTaken → ⊥
 unfolding isNotTaken
-taken-number c h e = true-not-false (sym (ap isNotTaken e) ∙ h)
-  where
-    true-not-false : true ≡ false → ⊥
-    true-not-false q = let z : _≡_ {A = ℕ} 0 1 = cc in omega arith
+taken-number c h e = true≢false (sym (ap isNotTaken e) ∙ h)
 
 lies-behind :
     (e : ℕ) (quads : Quadwords) (m : ℕ) → m ≡ 2 * quads .0 → (k : Clause) → badRange (quadwords e) quads k ≡ false
     → LiesBehind e m k
 unfolding badRange
 lies-behind e quads m q NoClause h = tt
-lies-behind e quads m q (AluClause s n) h =
+lies-behind e quads m q (AluClause s n push mode0 mode1) h =
     let r = inside (quadwords e) quads s (slotsLength n) h in (r .0, omega (arith, r .1))
-lies-behind e quads m q (FetchClause s n) h =
+lies-behind e quads m q (FetchClause s n kind) h =
     let r = inside (quadwords e) quads s (fetchesLength n) h in (r .0, omega (arith, r .1))
 
 -- ---- a place of the section whose checks are unbroken
 
-module _ (card : Card) (w : List ℕ) (e : ℕ) (whole : length w ≡ 2 * card .quads .0) (p : ℕ)
-    (clean : firstBroken (pairChecks card w (quadwords e) (quadwords p) (controlAt w p) (lowAt w p) (highAt w p)) ≡ Accepted)
-  where
+-- the clause that is asked about lies in the buffer
+module _ (w : List ℕ) (e : ℕ) (s : Quadwords) (n : Slots) where
+  alu-inside :
+      (push : Bool) (mode0 mode1 : ℕ) → LiesBehind e (length w) (AluClause s n push mode0 mode1)
+      → liesIn (words (length w)) s (slotsLength n) ≡ true
+  unfolding liesIn
+  alu-inside push mode0 mode1 l = le-leb (s .0 + n .0) (length w / 2) (omega (arith, l .1))
+
+  fetches-inside :
+      (kind : FetchKind) → LiesBehind e (length w) (FetchClause s n kind) → liesIn (words (length w)) s (fetchesLength n) ≡ true
+  unfolding liesIn
+  fetches-inside kind l = le-leb (s .0 + 2 * n .0) (length w / 2) (omega (arith, l .1))
+
+module _ (card : Card) (w : List ℕ) (e p : ℕ) where
+  in-clause :
+      (k : Clause) → LiesBehind e (length w) k → firstBroken (clauseChecks card w (quadwords p) k) ≡ Accepted → (x : Name)
+      → List·Memᴰ x (clauseNames w k) → granted (limitsIn card k) x ≡ true
+  unfolding clauseNames clauseChecks
+  in-clause NoClause l h = λ x m. absurd (List·Memᴰ·not-nil m)
+  in-clause (AluClause s n push mode0 mode1) l h =
+      each-of (λ g. namesBelow (alu.namedAt w s g) (alu.sizeAt w s n g)) (alu.groupsOf w s n)
+      (λ g t.
+      each-below (alu.namedAt w s g) (alu.sizeAt w s n g)
+      (of-alu.accepted-granted (card .kind) push (limitsWith card mode0 mode1) w (quadwords p) s n
+      (alu-inside w e s n push mode0 mode1 l) h g t))
+  in-clause (FetchClause s n kind) l h =
+      each-below (fetches.namedAt kind w s) (n .0)
+      (of-fetches.accepted-granted kind (limitsWith card 0 0) w (quadwords p) s n (fetches-inside w e s n kind l) h)
+
+  filled :
+      (k : Clause) → LiesBehind e (length w) k → firstBroken (clauseChecks card w (quadwords p) k) ≡ Accepted → IsFilled w k
+  unfolding clauseChecks
+  filled NoClause l h = tt
+  filled (AluClause s n push mode0 mode1) l h =
+      of-alu.accepted-filled (card .kind) push (limitsWith card mode0 mode1) w (quadwords p) s n
+      (alu-inside w e s n push mode0 mode1 l) h
+  filled (FetchClause s n kind) l h = tt
+
+  -- the card's figures are granted whatever the clause
+  same-gprs : (k : Clause) → limitsIn card k .gprs ≡ card .gprs
+  same-gprs NoClause = refl
+  same-gprs (AluClause s n push mode0 mode1) = refl
+  same-gprs (FetchClause s n kind) = refl
+
+  module _ (whole : length w ≡ 2 * card .quads .0) (r : RangeKept card w e p) (i : InsideKept card w p) where
     pub place-taken : controlAt w p ≡ NotTaken → ⊥
-    unfolding pairChecks
-    place-taken = taken-number (controlAt w p) (first-clean _ _ clean)
+    place-taken = taken-number (controlAt w p) (r .taken)
 
     pub place-behind : LiesBehind e (length w) (clauseAt w p)
-    unfolding pairChecks
-    place-behind =
-        lies-behind e (card .quads) (length w) whole (clauseAt w p)
-        (first-clean _ _ (rest-clean _ _ (rest-clean _ _ clean)))
-
-    exports-clean : badExport (controlAt w p) (card .kind) (card .gprs) (lowAt w p) (highAt w p) ≡ false
-    unfolding pairChecks
-    exports-clean = first-clean _ _ (rest-clean _ _ (rest-clean _ _ (rest-clean _ _ clean)))
-
-    clause-clean :
-        firstBroken (clauseChecks card w (quadwords p) (controlAt w p) (lowAt w p) (highAt w p) (clauseAt w p)) ≡ Accepted
-    unfolding pairChecks
-    clause-clean = rest-clean _ _ (rest-clean _ _ (rest-clean _ _ (rest-clean _ _ clean)))
-
-    -- the clause that is asked about lies in the buffer
-    alu-inside : (s : Quadwords) (n : Slots) → LiesBehind e (length w) (AluClause s n) → alu.insideBuffer (words (length w)) s n ≡ true
-    unfolding alu.insideBuffer
-    alu-inside s n l = le-leb (s .0 + n .0) (length w / 2) (omega (arith, l .1))
-
-    fetches-inside :
-        (s : Quadwords) (n : Slots) → LiesBehind e (length w) (FetchClause s n) → fetches.insideBuffer (words (length w)) s n ≡ true
-    unfolding fetches.insideBuffer
-    fetches-inside s n l = le-leb (s .0 + 2 * n .0) (length w / 2) (omega (arith, l .1))
-
-    in-clause :
-        (k : Clause) → LiesBehind e (length w) k
-        → firstBroken (clauseChecks card w (quadwords p) (controlAt w p) (lowAt w p) (highAt w p) k) ≡ Accepted → (x : Name)
-        → List·Memᴰ x (clauseNames w (controlAt w p) k) → granted (limitsOf card (lowAt w p) (highAt w p)) x ≡ true
-    unfolding clauseNames clauseChecks
-    in-clause NoClause l h = λ x m. absurd (List·Memᴰ·not-nil m)
-    in-clause (AluClause s n) l h =
-        each-of (λ g. namesBelow (alu.namedAt w s g) (alu.sizeAt w s n g)) (alu.groupsOf w s n)
-        (λ g t.
-        each-below (alu.namedAt w s g) (alu.sizeAt w s n g)
-        (of-alu.accepted-granted (card .kind) (isPushBefore (controlAt w p)) (limitsOf card (lowAt w p) (highAt w p)) w (quadwords p) s n
-        (alu-inside s n l) h g t))
-    in-clause (FetchClause s n) l h =
-        each-below (fetches.namedAt (fetchKind (controlAt w p)) w s) (n .0)
-        (of-fetches.accepted-granted (fetchKind (controlAt w p)) (limitsOf card (lowAt w p) (highAt w p)) w (quadwords p) s n
-        (fetches-inside s n l) h)
-
-    filled :
-        (k : Clause) → LiesBehind e (length w) k
-        → firstBroken (clauseChecks card w (quadwords p) (controlAt w p) (lowAt w p) (highAt w p) k) ≡ Accepted → IsFilled w k
-    unfolding clauseChecks
-    filled NoClause l h = tt
-    filled (AluClause s n) l h =
-        of-alu.accepted-filled (card .kind) (isPushBefore (controlAt w p)) (limitsOf card (lowAt w p) (highAt w p)) w (quadwords p) s n
-        (alu-inside s n l) h
-    filled (FetchClause s n) l h = tt
+    place-behind = lies-behind e (card .quads) (length w) whole (clauseAt w p) (r .range)
 
     pub place-filled : IsFilled w (clauseAt w p)
-    place-filled = filled (clauseAt w p) place-behind clause-clean
+    place-filled = filled (clauseAt w p) place-behind (i .clause)
 
-    pub place-granted : (x : Name) → List·Memᴰ x (namesAt w p) → granted (limitsOf card (lowAt w p) (highAt w p)) x ≡ true
+    pub place-granted : (x : Name) → List·Memᴰ x (namesAt w p) → granted (limitsIn card (clauseAt w p)) x ≡ true
     unfolding namesAt
     place-granted x m =
         ⊎-elim
-        (each-export-granted (controlAt w p) (card .kind) (limitsOf card (lowAt w p) (highAt w p)) (card .gprs) (lowAt w p) (highAt w p) refl exports-clean x)
-        (in-clause (clauseAt w p) place-behind clause-clean x)
-        (in-joined (exportNames (controlAt w p) (lowAt w p) (highAt w p)) (clauseNames w (controlAt w p) (clauseAt w p)) m)
+        (each-export-granted (controlAt w p) (card .kind) (limitsIn card (clauseAt w p)) (card .gprs) (lowAt w p) (highAt w p)
+        (same-gprs (clauseAt w p)) (i .exported) x)
+        (in-clause (clauseAt w p) place-behind (i .clause) x)
+        (in-joined (exportNames (controlAt w p) (lowAt w p) (highAt w p)) (clauseNames w (clauseAt w p)) m)
 
 -- ---- the walk
 
@@ -181,29 +173,34 @@ judged card w h =
     }
 
 module _ (card : Card) (w : List ℕ) (j : Judged card w) where
-  pair-clean :
-      (p : ℕ) → p ≤ endOf w
-      → firstBroken (pairChecks card w (quadwords (endOf w)) (quadwords p) (controlAt w p) (lowAt w p) (highAt w p)) ≡ Accepted
+  pair-clean : (p : ℕ) → p ≤ endOf w → firstBroken (pairChecks card w (endOf w) p) ≡ Accepted
   unfolding firstChecks
-  pair-clean p l =
-      left-clean (pairChecks card w (quadwords (endOf w)) (quadwords p) (controlAt w p) (lowAt w p) (highAt w p)) _ (j .first p l)
+  pair-clean p l = left-clean (pairChecks card w (endOf w) p) _ (j .first p l)
+
+  range-clean : (p : ℕ) → p ≤ endOf w → RangeKept card w (endOf w) p
+  unfolding pairChecks
+  range-clean p l = range-kept card w (endOf w) p (left-clean (rangeChecks card w (endOf w) p) (insideChecks card w p) (pair-clean p l))
+
+  inside-clean : (p : ℕ) → p ≤ endOf w → InsideKept card w p
+  unfolding pairChecks
+  inside-clean p l = inside-kept card w p (right-clean (rangeChecks card w (endOf w) p) (insideChecks card w p) (pair-clean p l))
 
   stack-clean : (p : ℕ) → p ≤ endOf w → firstBroken (stackChecks (card .stack) (endOf w) (flowAt w) p) ≡ Accepted
   unfolding firstChecks
-  stack-clean p l =
-      right-clean (pairChecks card w (quadwords (endOf w)) (quadwords p) (controlAt w p) (lowAt w p) (highAt w p)) _
-      (j .first p l)
+  stack-clean p l = right-clean (pairChecks card w (endOf w) p) _ (j .first p l)
 
   safe-at : (s : State) → Sound (card .stack) (endOf w) (flowAt w) s → Safe card w s
   safe-at s k =
+      let r = range-clean (s .at) (k .inside) in
+      let i = inside-clean (s .at) (k .inside) in
       record {
         no-fault = k .no-fault;
         has-end = j .end;
         inside = k .inside;
-        number-taken = place-taken card w (endOf w) (j .whole) (s .at) (pair-clean (s .at) (k .inside));
-        clause-behind = place-behind card w (endOf w) (j .whole) (s .at) (pair-clean (s .at) (k .inside));
-        clause-filled = place-filled card w (endOf w) (j .whole) (s .at) (pair-clean (s .at) (k .inside));
-        all-granted = place-granted card w (endOf w) (j .whole) (s .at) (pair-clean (s .at) (k .inside));
+        number-taken = place-taken card w (endOf w) (s .at) (j .whole) r i;
+        clause-behind = place-behind card w (endOf w) (s .at) (j .whole) r i;
+        clause-filled = place-filled card w (endOf w) (s .at) (j .whole) r i;
+        all-granted = place-granted card w (endOf w) (s .at) (j .whole) r i;
         not-deep = k .not-deep;
         goes-on = k .goes-on;
         halted-empty = k .halted-empty;

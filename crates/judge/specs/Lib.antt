@@ -1,4 +1,4 @@
--- The root of what the contracts cite.
+-- The root of what the contracts cite. Code is for the code alone; the others are what a reader has to believe.
 pub mod Judge
 pub mod Safe
-pub mod Passing
+pub mod Code

@@ -12,33 +12,28 @@ use Rattle.card.specs.Card.{cardOf}
 use Rattle.grants.specs.Grants.{Name, granted}
 use Rattle.fetches.specs.Fetches as fetches
 use Rattle.clauses.specs.Clause as alu
-use Rattle.control.specs.declared.Control.{Control}
-use Rattle.control.specs.declared.Control.the-variants.{NotTaken}
-use Rattle.control.specs.declared.Clause.{Clause}
-use Rattle.control.specs.declared.Clause.the-variants.{NoClause, AluClause, FetchClause}
-use Rattle.control.specs.Control.{controlAt, isEnd, endOf}
-use Rattle.control.specs.Rules.{clauseOf, exportNames}
-use Rattle.flow.specs.Pairs.{flowAt}
-use Rattle.flow.specs.Walk.{State, start, step, walk}
-use Rattle.judge.specs.Judge.{limitsOf, fetchKind}
+use Rattle.opcodes.specs.declared.cf.Control.the-variants.{NotTaken}
+use Rattle.section.specs.declared.Clause.{Clause}
+use Rattle.section.specs.declared.Clause.the-variants.{NoClause, AluClause, FetchClause}
+use Rattle.section.specs.Control.{controlAt, isEnd, endOf}
+use Rattle.section.specs.Rules.{clauseAt, exportNames}
+use Rattle.walk.specs.Flow.{flowAt}
+use Rattle.walk.specs.Walk.{State, start, step, walk}
+use Rattle.judge.specs.Judge.{limitsIn}
 
--- ---- what the pair at a place opens and names
-
--- the clause that the pair at p opens (TEX, VTX, VTX_TC, CF_ALU)
-abbrev pub clauseAt : List ℕ → ℕ → Clause
-clauseAt w p = clauseOf (controlAt w p) (lowAt w p) (highAt w p)
+-- ---- what the clause that a pair opens (TEX, VTX, VTX_TC, CF_ALU) is sure of, and what is named
 
 -- a clause lies wholly behind the section, which ends at e, and inside a buffer of m words
 abbrev pub LiesBehind : ℕ → ℕ → Clause → Type 0
 LiesBehind e m NoClause = Unit {0}
-LiesBehind e m (AluClause s n) = (e < s .0) × (wordsOf (rangeEnd s (slotsLength n)) .0 ≤ m)
-LiesBehind e m (FetchClause s n) = (e < s .0) × (wordsOf (rangeEnd s (fetchesLength n)) .0 ≤ m)
+LiesBehind e m (AluClause s n push mode0 mode1) = (e < s .0) × (wordsOf (rangeEnd s (slotsLength n)) .0 ≤ m)
+LiesBehind e m (FetchClause s n kind) = (e < s .0) × (wordsOf (rangeEnd s (fetchesLength n)) .0 ≤ m)
 
 -- the groups of an ALU clause fill it exactly, from its first slot to its last: there is no instruction in it but theirs
 abbrev pub IsFilled : List ℕ → Clause → Type 0
 IsFilled w NoClause = Unit {0}
-IsFilled w (AluClause s n) = alu.Fills w s n (slots 0) (alu.groupsOf w s n)
-IsFilled w (FetchClause s n) = Unit {0}
+IsFilled w (AluClause s n push mode0 mode1) = alu.Fills w s n (slots 0) (alu.groupsOf w s n)
+IsFilled w (FetchClause s n kind) = Unit {0}
 
 -- the names below n, and those of a list of groups
 unfoldable pub namesBelow : (ℕ → List Name) → ℕ → List Name
@@ -50,14 +45,15 @@ namesOfEach f [] = []
 namesOfEach f (g ∷ gs) = f g ++ namesOfEach f gs
 
 -- every register and constant directly named in a clause: by each instruction of each group, by each fetch
-unfoldable pub clauseNames : List ℕ → Control → Clause → List Name
-clauseNames w c NoClause = []
-clauseNames w c (AluClause s n) = namesOfEach (λ g. namesBelow (alu.namedAt w s g) (alu.sizeAt w s n g)) (alu.groupsOf w s n)
-clauseNames w c (FetchClause s n) = namesBelow (fetches.namedAt (fetchKind c) w s) (n .0)
+unfoldable pub clauseNames : List ℕ → Clause → List Name
+clauseNames w NoClause = []
+clauseNames w (AluClause s n push mode0 mode1) =
+    namesOfEach (λ g. namesBelow (alu.namedAt w s g) (alu.sizeAt w s n g)) (alu.groupsOf w s n)
+clauseNames w (FetchClause s n kind) = namesBelow (fetches.namedAt kind w s) (n .0)
 
 -- by the pair at p itself (exports) or in its clause
 unfoldable pub namesAt : List ℕ → ℕ → List Name
-namesAt w p = exportNames (controlAt w p) (lowAt w p) (highAt w p) ++ clauseNames w (controlAt w p) (clauseAt w p)
+namesAt w p = exportNames (controlAt w p) (lowAt w p) (highAt w p) ++ clauseNames w (clauseAt w p)
 
 -- ---- the claim
 
@@ -81,7 +77,7 @@ pub record Safe (card : Card) (w : List ℕ) (s : State) : Type 0 where
   pub clause-filled : IsFilled w (clauseAt w (s .at))
   -- every register and constant directly named there or in the clause is granted
   pub all-granted :
-      (x : Name) → List·Memᴰ x (namesAt w (s .at)) → granted (limitsOf card (lowAt w (s .at)) (highAt w (s .at))) x ≡ true
+      (x : Name) → List·Memᴰ x (namesAt w (s .at)) → granted (limitsIn card (clauseAt w (s .at))) x ≡ true
   -- the stack is at most the card's number
   pub not-deep : length (s .stack) ≤ card .stack
   -- until the walk has halted, which it has at the end, either answer leads to a next instruction inside the section

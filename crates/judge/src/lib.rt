@@ -1,26 +1,25 @@
 // The judge: both passes over a pack, and its verdict.
 //
 // Document 01, "Numbers and what they mean": the checks in their order, of which the first broken one is the answer. Nothing is copied;
-// the stack before each place of the section is kept as two numbers (crate `flow`).
+// the stack before each place of the section is kept as two numbers (crate `walk`).
 use card::Card;
 use card::CardRead;
 use card::CardTest;
 use checks::Place;
-use checks::Rule;
 use checks::Verdict;
-use flow::Frames;
 use units::Quadwords;
 use units::Slots;
+use walk::Frames;
 ghost use mathlib.Core.Path.{_≡_};
 ghost use Prim.Native.Nat.{suc};
 ghost use Rattle.checks.specs.Checks.{firstBroken, below};
 ghost use Rattle.checks.specs.declared.Verdict.the-variants.{Accepted, Refused};
 ghost use Rattle.units.specs.Units as counts;
-ghost use Rattle.flow.specs.Held.{Recorded};
-ghost use Rattle.flow.specs.Pairs.{flowAt};
+ghost use Rattle.walk.specs.CodeHeld.{Recorded};
+ghost use Rattle.walk.specs.Flow.{flowAt};
 ghost use Rattle.judge.specs.Judge.{firstChecks, passes, judgement, judgementOfBytes};
 ghost use Rattle.judge.specs.Safe.{Safely, SafelyRead};
-ghost use Rattle.judge.specs.Passing.{InWords, Section, Within, Ready, Found};
+ghost use Rattle.judge.specs.Code.{InWords, Section, At, Found, Stepped};
 
 mod pairs;
 mod stack;
@@ -34,15 +33,15 @@ pub fn judge(card: Card, words: &[u32]) -> Verdict
 {
     let test = card::check_card(card);
     if let CardTest::BadLine(n) = test {
-        return refused(Rule::CardLine, Place::Line(n));
+        return refused(1, Place::Line(n));
     }
-    if control::is_bad_length(words, card.quads) {
-        return refused(Rule::PackLength, Place::Whole);
+    if section::is_bad_length(words, card.quads) {
+        return refused(2, Place::Whole);
     }
-    let searched = control::searched_pairs(words);
-    let end = control::find_end(words);
+    let searched = section::searched_pairs(words);
+    let end = section::find_end(words);
     if units::is_at_most(searched, end) {
-        return refused(Rule::NoEnd, Place::Whole);
+        return refused(3, Place::Whole);
     }
     both_passes(card, words, end)
 }
@@ -55,12 +54,12 @@ pub fn judge_bytes(bytes: &[u8], words: &[u32]) -> Verdict
     let read = card::read_card(bytes);
     match read {
         CardRead::Whole(card, _) => judge(card, words),
-        CardRead::BadLine(n) => refused(Rule::CardLine, Place::Line(n)),
+        CardRead::BadLine(n) => refused(1, Place::Line(n)),
     }
 }
 
 // A refusal that no slot belongs to.
-pub(crate) fn refused(rule: Rule, place: Place) -> Verdict
+pub(crate) fn refused(rule: u8, place: Place) -> Verdict
     ensures { λ r. ⌜ r ≡ Refused rule place (counts.slots 0) ⌝ }
 {
     let slot = Slots(0);
@@ -97,7 +96,7 @@ fn passes_with(
     let first = first_pass(card, words, e, &mut tops[..], &mut marks[..]);
     match first {
         Verdict::Refused { rule, place, slot } => Verdict::Refused { rule, place, slot },
-        Verdict::Accepted => flow::second_pass(words, pairs, &tops[..], &marks[..]),
+        Verdict::Accepted => walk::second_pass(words, pairs, &tops[..], &marks[..]),
     }
 }
 
@@ -120,10 +119,7 @@ fn first_pass(
     };
     let mut p = Quadwords(0);
     while units::is_at_most(p, e) {
-        let ahead = first_at(card, words, e, p, s, &tops[..], &marks[..]);
-        let row = p.0;
-        tops[row] = s.top.0;
-        marks[row] = s.marks;
+        let ahead = first_at(card, words, e, p, s, &mut tops[..], &mut marks[..]);
         match ahead {
             Ahead::Broken { rule, place, slot } => {
                 return Verdict::Refused { rule, place, slot };
@@ -137,8 +133,28 @@ fn first_pass(
     Verdict::Accepted
 }
 
-// Rules 4 to 17 at place p.
+// Rules 4 to 17 at place p, before which the stack is `s`; its row is written.
 fn first_at(
+    card: Card,
+    words: &[u32],
+    e: Quadwords,
+    p: Quadwords,
+    s: Frames,
+    tops: &mut [usize],
+    marks: &mut [usize],
+) -> Ahead
+    requires { ⌜ At card (now words) (e .0) (p .0) s (now tops) (now marks) ⌝ }
+    ensures { λ r. ⌜ Stepped card (now (words .entry)) (e .0) (p .0) r (now (tops .exit)) (now (marks .exit)) ⌝ }
+{
+    let ahead = place_ahead(card, words, e, p, s, &tops[..], &marks[..]);
+    let row = p.0;
+    tops[row] = s.top.0;
+    marks[row] = s.marks;
+    ahead
+}
+
+// What is found at place p.
+fn place_ahead(
     card: Card,
     words: &[u32],
     e: Quadwords,
@@ -147,20 +163,17 @@ fn first_at(
     tops: &[usize],
     marks: &[usize],
 ) -> Ahead
-    requires { ⌜ Within (now words) (e .0) (p .0) ⌝ }
-    requires { ⌜ Ready (flowAt (now words)) (card .stack) (p .0) s (now tops) (now marks) ⌝ }
+    requires { ⌜ At card (now words) (e .0) (p .0) s (now tops) (now marks) ⌝ }
     ensures { λ r. ⌜ Found card (now (words .entry)) (e .0) (p .0) r ⌝ }
 {
     let at = units::low_word(p).0;
-    let low = words[at];
-    let high = words[at + 1];
-    let control = control::control_of(high);
-    let verdict = pairs::pair_verdict(card, words, e, p, control, low, high);
+    let pair = pairs::pair_of(words[at], words[at + 1]);
+    let verdict = pairs::pair_verdict(card, words, e, p, pair);
     match verdict {
         Verdict::Refused { rule, place, slot } => Ahead::Broken { rule, place, slot },
         Verdict::Accepted => {
-            let flow = flow::flow_of(control, low, high);
-            stack::stack_at(words, flow, card.stack as usize, e, p, s, tops, marks)
+            let flow = pairs::flow_of(pair);
+            stack::stack_at(card, words, flow, e, p, s, tops, marks)
         }
     }
 }

@@ -1,100 +1,137 @@
-// Rules 4 to 15 at one pair, by what it is and by its words.
+// Rules 4 to 15 at one pair: a function for each stretch of rules, the later one asked where the earlier accepts.
 use crate::refused;
 use card::Card;
 use checks::Place;
-use checks::Rule;
 use checks::Verdict;
-use control::Clause;
-use control::Control;
-use fetches::FetchKind;
 use grants::Limits;
+use opcodes::cf::Control;
+use section::Clause;
 use units::Quadwords;
+use walk::Flow;
 ghost use mathlib.Core.Path.{_≡_};
 ghost use Rattle.checks.specs.Checks.{firstBroken};
+ghost use Rattle.section.specs.Control.{controlOf};
+ghost use Rattle.section.specs.Rules.{clauseOf};
+ghost use Rattle.walk.specs.Flow as flows;
 ghost use Rattle.judge.specs.Judge as order;
+ghost use Rattle.judge.specs.Code.{pairAt};
 
-// Rules 4 to 7, then the clause that the pair opens.
-pub fn pair_verdict(
+// A control-flow pair: its words, what it is and the clause that it opens.
+pub struct Pair {
+    pub low: u32,
+    pub high: u32,
+    pub control: Control,
+    pub clause: Clause,
+}
+
+pub(crate) fn pair_of(low: u32, high: u32) -> Pair
+    ensures { λ r. ⌜ r ≡ record { low = low; high = high; control = controlOf high; clause = clauseOf (controlOf high) low high } ⌝ }
+{
+    let control = section::control_of(high);
+    let clause = section::clause_of(control, low, high);
+    Pair {
+        low,
+        high,
+        control,
+        clause,
+    }
+}
+
+// What the pair does to the stack.
+pub(crate) fn flow_of(pair: Pair) -> Flow
+    ensures { λ r. ⌜ r ≡ flows.flowOf (pair .control) (pair .low) (pair .high) ⌝ }
+{
+    let control = pair.control;
+    walk::flow_of(control, pair.low, pair.high)
+}
+
+// Rules 4 to 15.
+pub(crate) fn pair_verdict(
     card: Card,
     words: &[u32],
     end: Quadwords,
-    place: Quadwords,
-    control: Control,
-    low: u32,
-    high: u32,
+    p: Quadwords,
+    pair: Pair,
 ) -> Verdict
-    ensures { λ r. ⌜ r ≡ firstBroken (order.pairChecks card (now (words .entry)) end place control low high) ⌝ }
+    requires { ⌜ pair ≡ pairAt (now words) (p .0) ⌝ }
+    ensures { λ r. ⌜ r ≡ firstBroken (order.pairChecks card (now (words .entry)) (end .0) (p .0)) ⌝ }
 {
-    if control::is_not_taken(control) {
-        return refused(Rule::CfNumber, Place::Quadword(place));
+    let opened = range_verdict(card, words, end, p, pair);
+    match opened {
+        Verdict::Refused { rule, place, slot } => Verdict::Refused { rule, place, slot },
+        Verdict::Accepted => inside_verdict(card, words, p, pair),
     }
-    if control::is_bad_field(control, high) {
-        return refused(Rule::CfField, Place::Quadword(place));
+}
+
+// Rules 4, 5 and 6.
+fn range_verdict(card: Card, words: &[u32], end: Quadwords, p: Quadwords, pair: Pair) -> Verdict
+    requires { ⌜ pair ≡ pairAt (now words) (p .0) ⌝ }
+    ensures { λ r. ⌜ r ≡ firstBroken (order.rangeChecks card (now (words .entry)) (end .0) (p .0)) ⌝ }
+{
+    let control = pair.control;
+    if section::is_not_taken(control) {
+        return refused(4, Place::Quadword(p));
     }
-    let clause = control::clause_of(control, low, high);
-    if control::is_bad_range(end, card.quads, clause) {
-        return refused(Rule::ClauseRange, Place::Quadword(place));
+    if section::is_bad_field(control, pair.high) {
+        return refused(5, Place::Quadword(p));
     }
+    let clause = pair.clause;
+    if section::is_bad_range(end, card.quads, clause) {
+        return refused(6, Place::Quadword(p));
+    }
+    Verdict::Accepted
+}
+
+// Rule 7, then the clause.
+fn inside_verdict(card: Card, words: &[u32], p: Quadwords, pair: Pair) -> Verdict
+    requires { ⌜ pair ≡ pairAt (now words) (p .0) ⌝ }
+    ensures { λ r. ⌜ r ≡ firstBroken (order.insideChecks card (now (words .entry)) (p .0)) ⌝ }
+{
+    let control = pair.control;
     let kind = card.kind;
-    if control::is_bad_export(control, kind, card.gprs, low, high) {
-        return refused(Rule::ExportField, Place::Quadword(place));
+    if section::is_bad_export(control, kind, card.gprs, pair.low, pair.high) {
+        return refused(7, Place::Quadword(p));
     }
-    clause_verdict(card, words, place, control, low, high, clause)
+    let clause = pair.clause;
+    clause_verdict(card, words, p, clause)
 }
 
 // Rules 8 to 15.
-fn clause_verdict(
-    card: Card,
-    words: &[u32],
-    place: Quadwords,
-    control: Control,
-    low: u32,
-    high: u32,
-    clause: Clause,
-) -> Verdict
-    ensures { λ r. ⌜ r ≡ firstBroken (order.clauseChecks card (now (words .entry)) place control low high clause) ⌝ }
+fn clause_verdict(card: Card, words: &[u32], place: Quadwords, clause: Clause) -> Verdict
+    ensures { λ r. ⌜ r ≡ firstBroken (order.clauseChecks card (now (words .entry)) place clause) ⌝ }
 {
-    let limits = limits_of(card, low, high);
     match clause {
         Clause::NoClause => Verdict::Accepted,
-        Clause::AluClause { start, slots } => {
-            let push_before = is_push_before(control);
+        Clause::AluClause {
+            start,
+            slots,
+            push_before,
+            mode0,
+            mode1,
+        } => {
+            let limits = limits_with(card, mode0, mode1);
             let kind = card.kind;
             clauses::alu_clause(words, place, start, slots, push_before, kind, limits)
         }
-        Clause::FetchClause { start, fetches } => {
-            let kind = fetch_kind(control);
+        Clause::FetchClause {
+            start,
+            fetches,
+            kind,
+        } => {
+            let limits = limits_with(card, 0, 0);
             fetches::fetch_clause(words, place, start, fetches, kind, limits)
         }
     }
 }
 
-fn limits_of(card: Card, low: u32, high: u32) -> Limits
-    ensures { λ r. ⌜ r ≡ order.limitsOf card low high ⌝ }
+fn limits_with(card: Card, mode0: u32, mode1: u32) -> Limits
+    ensures { λ r. ⌜ r ≡ order.limitsWith card mode0 mode1 ⌝ }
 {
     Limits {
         gprs: card.gprs,
         temps: card.temps,
         consts: card.consts,
-        mode0: bits::field(low, 30, 2),
-        mode1: bits::field(high, 0, 2),
-    }
-}
-
-fn is_push_before(control: Control) -> bool
-    ensures { λ r. ⌜ r ≡ order.isPushBefore control ⌝ }
-{
-    match control {
-        Control::PushBefore => true,
-        _ => false,
-    }
-}
-
-fn fetch_kind(control: Control) -> FetchKind
-    ensures { λ r. ⌜ r ≡ order.fetchKind control ⌝ }
-{
-    match control {
-        Control::Tex => FetchKind::Texture,
-        _ => FetchKind::Vertex,
+        mode0,
+        mode1,
     }
 }

@@ -8,19 +8,20 @@ use native.Mathlib.Nat.{le-refl, le-of-eq, le-add-right, add-zero}
 use native.Mathlib.Omega.{arith}
 use lib.Dec.{leb}
 use lib.ListN.{length, getD, take, drop, set, take-append-drop, length-drop, drop-of-length-le}
-use lib.Seq.{take-all, take-set-le, drop-set-add}
+use lib.Seq.{take-set-le, drop-set-add}
 use borrow.Author.Tests.{le-leb, lt-leb, leb-true, leb-false, not-true, not-false}
 use borrow.Rule.Slice.PartMut.{putMid}
+use Rattle.laws.proofs.OfLists.{to-the-end}
 use Rattle.units.specs.declared.Words.{Words}
-use Rattle.checks.specs.declared.Rule.the-variants.{PackLength, EncodeRoom, EncodeRecord}
 use Rattle.microcode.specs.declared.Instruction.{Instruction}
 use Rattle.microcode.specs.declared.Decoded.{Decoded}
-use Rattle.microcode.specs.declared.Decoded.the-variants as decoded
+use Rattle.microcode.specs.declared.Decoded.the-variants.{Outside}
 use Rattle.microcode.specs.declared.Encoded.{Encoded}
-use Rattle.microcode.specs.declared.Encoded.the-variants as encoded
+use Rattle.microcode.specs.declared.Encoded.the-variants.{NoRecord, NoRoom, Done}
 use Rattle.microcode.specs.declared.Stream.{Stream}
 use Rattle.microcode.specs.Pair.{pairOf, encodable, lowOf, highOf}
-use Rattle.microcode.specs.Codec.{room, decodeOf, putAnswer, putWords, encodeAnswer, encodeWords}
+use Rattle.microcode.specs.Buffer.{room, decodeOf, encodeAnswer, encodeWords}
+use Rattle.microcode.specs.Code.{putAnswer, putWords}
 
 pub roomy : (l : List ℕ) (start : ℕ) → start + 2 ≤ length l → room l start ≡ true
 unfolding room
@@ -32,7 +33,7 @@ cramped l start h = lt-leb (start + 2) (length l) h
 
 -- ---- decoding
 
-pub decode-short : (s : Stream) (l : List ℕ) (start : Words) → length l < start .0 + 2 → decoded.Refused PackLength ≡ decodeOf s l start
+pub decode-short : (s : Stream) (l : List ℕ) (start : Words) → length l < start .0 + 2 → Outside ≡ decodeOf s l start
 unfolding decodeOf
 decode-short s l start h = rw (cramped l (start .0) h)
 
@@ -45,11 +46,11 @@ decode-pair s t l start d h e p =
 
 -- two words at the beginning of a part
 module _ (lo hi : ℕ) (l : List ℕ) where
-  pub put-short : length l < 2 → (encoded.Refused EncodeRoom ≡ putAnswer l 0) × (l ≡ putWords lo hi l 0)
+  pub put-short : length l < 2 → (NoRoom ≡ putAnswer l) × (l ≡ putWords lo hi l)
   unfolding putAnswer putWords
   put-short h = (rw (cramped l 0 h), rw (cramped l 0 h))
 
-  pub put-done : (m : List ℕ) → 2 ≤ length l → m ≡ set (set l 0 lo) 1 hi → (encoded.Done ≡ putAnswer l 0) × (m ≡ putWords lo hi l 0)
+  pub put-done : (m : List ℕ) → 2 ≤ length l → m ≡ set (set l 0 lo) 1 hi → (Done ≡ putAnswer l) × (m ≡ putWords lo hi l)
   unfolding putAnswer putWords
   put-done m h e = (rw (roomy l 0 h), rw (roomy l 0 h) e)
 
@@ -68,9 +69,6 @@ two-words a lo hi l =
 
 -- the part of a buffer from a on, as it is lent on and as it comes back
 module _ (a : ℕ) (l : List ℕ) where
-  lent-part : take (length l - a) (drop a l) ≡ drop a l
-  lent-part = take-all (length l - a) (drop a l) (le-of-eq (length-drop a l))
-
   back-again : (p : List ℕ) → putMid a (length l - a) l p ≡ take a l ++ p
   back-again p =
       ap (λ (y : List ℕ). take a l ++ (p ++ y)) (drop-of-length-le (drop a l) (le-of-eq (length-drop a l)))
@@ -88,11 +86,11 @@ module _ (a : ℕ) (l : List ℕ) (h : a ≤ length l) where
       by true e = let k = leb-true (a + 2) (length l) e in le-leb 2 (length (drop a l)) (omega (arith, long)) ∙ sym e
       by false e = let k = leb-false (a + 2) (length l) e in lt-leb 2 (length (drop a l)) (omega (arith, long)) ∙ sym e
 
-  part-answer : putAnswer (drop a l) 0 ≡ putAnswer l a
+  part-answer : putAnswer (drop a l) ≡ cond (room l a) Done NoRoom
   unfolding putAnswer
   part-answer = rw part-room
 
-  part-words : (lo hi : ℕ) → take a l ++ putWords lo hi (drop a l) 0 ≡ putWords lo hi l a
+  part-words : (lo hi : ℕ) → take a l ++ putWords lo hi (drop a l) ≡ cond (room l a) (set (set l a lo) (a + 1) hi) l
   unfolding putWords
   part-words lo hi = rw part-room (by (room l a))
     where
@@ -101,26 +99,26 @@ module _ (a : ℕ) (l : List ℕ) (h : a ≤ length l) where
       by false = take-append-drop a l
 
 module _ (i : Instruction) (l : List ℕ) (start : Words) (t : Bool) (e : t ≡ encodable i) where
-  pub encode-refused : not t ≡ true → (encoded.Refused EncodeRecord ≡ encodeAnswer i l start) × (l ≡ encodeWords i l start)
+  pub encode-refused : not t ≡ true → (NoRecord ≡ encodeAnswer i l start) × (l ≡ encodeWords i l start)
   unfolding encodeAnswer encodeWords
   encode-refused h = let k : encodable i ≡ false = sym e ∙ not-true t h in (rw k, rw k)
 
-  pub encode-beyond : not t ≡ false → length l < start .0 → (encoded.Refused EncodeRoom ≡ encodeAnswer i l start) × (l ≡ encodeWords i l start)
-  unfolding encodeAnswer encodeWords putAnswer putWords
+  pub encode-beyond : not t ≡ false → length l < start .0 → (NoRoom ≡ encodeAnswer i l start) × (l ≡ encodeWords i l start)
+  unfolding encodeAnswer encodeWords
   encode-beyond h b =
       let k : encodable i ≡ true = sym e ∙ not-false t h in
       let none : room l (start .0) ≡ false = cramped l (start .0) (omega arith) in
       (rw (k, none), rw (k, none))
 
-  pub encode-put : (lo hi : ℕ) (r : Encoded) (p : List ℕ) → not t ≡ false → start .0 ≤ length l → lo ≡ lowOf i → hi ≡ highOf i → r ≡ putAnswer (take (length l - start .0) (drop (start .0) l)) 0 → p ≡ putWords lo hi (take (length l - start .0) (drop (start .0) l)) 0 → (r ≡ encodeAnswer i l start) × (putMid (start .0) (length l - start .0) l p ≡ encodeWords i l start)
+  pub encode-put : (lo hi : ℕ) (r : Encoded) (p : List ℕ) → not t ≡ false → start .0 ≤ length l → lo ≡ lowOf i → hi ≡ highOf i → r ≡ putAnswer (take (length l - start .0) (drop (start .0) l)) → p ≡ putWords lo hi (take (length l - start .0) (drop (start .0) l)) → (r ≡ encodeAnswer i l start) × (putMid (start .0) (length l - start .0) l p ≡ encodeWords i l start)
   unfolding encodeAnswer encodeWords
   encode-put lo hi r p h b f g x y =
       let at = start .0 in
       let k : encodable i ≡ true = sym e ∙ not-false t h in
-      let part = lent-part at l in (
-        rw k (x ∙ ap (λ (q : List ℕ). putAnswer q 0) part ∙ part-answer at l b),
+      let part = to-the-end at l in (
+        rw k (x ∙ ap putAnswer part ∙ part-answer at l b),
         rw k
             (back-again at l p
-            ∙ ap (λ (q : List ℕ). take at l ++ q) (y ∙ (λ j. putWords (f j) (g j) (part j) 0))
+            ∙ ap (λ (q : List ℕ). take at l ++ q) (y ∙ (λ j. putWords (f j) (g j) (part j)))
             ∙ part-words at l b (lowOf i) (highOf i)),
       )

@@ -6,26 +6,26 @@ use lib.ListN.{getD}
 use Rattle.units.specs.declared.Words.{Words}
 use Rattle.microcode.specs.declared.Instruction.{Instruction}
 use Rattle.microcode.specs.declared.Decoded.{Decoded}
-use Rattle.microcode.specs.declared.Decoded.the-variants as decoded
+use Rattle.microcode.specs.declared.Decoded.the-variants.{Taken}
 use Rattle.microcode.specs.declared.Encoded.{Encoded}
-use Rattle.microcode.specs.declared.Encoded.the-variants as encoded
+use Rattle.microcode.specs.declared.Encoded.the-variants.{Done}
 use Rattle.microcode.specs.declared.Stream.{Stream}
 use Rattle.microcode.specs.Pair.{streamOf}
-use Rattle.microcode.specs.Codec.{decodeOf, encodeAnswer, encodeWords, Rewritten, decodedVerdict, encodedVerdict, Answers, decodeNumber, encodeNumber}
+use Rattle.microcode.specs.Buffer.{decodeOf, encodeAnswer, encodeWords, Rewritten, decodedVerdict, encodedVerdict, Answers, decodeNumber, encodeNumber}
 use Rattle.microcode.proofs.RoundTrip.{words-again, record-again-at}
 use Rattle.microcode.proofs.OfNumbers.{decode-number, encode-number}
 
 -- of words of 32 bits
-pub decode-promises : (s : Stream) (l : List ℕ) (start : Words) (d : Decoded) → ((k : ℕ) → getD l k 0 < 2 ^ 32) → d ≡ decodeOf s l start → (d ≡ decodeOf s l start) × (((i : Instruction) → d ≡ decoded.Taken i → Rewritten i l start) × Answers (decodedVerdict d) (decodeNumber s l start))
+pub decode-promises : (s : Stream) (l : List ℕ) (start : Words) (d : Decoded) → ((k : ℕ) → getD l k 0 < 2 ^ 32) → d ≡ decodeOf s l start → (d ≡ decodeOf s l start) × (((i : Instruction) → d ≡ Taken i → Rewritten i l start) × Answers (decodedVerdict s d) (decodeNumber s l start))
 decode-promises s l start d small e = (
   e,
   (
     λ i h. words-again i l start s small (sym e ∙ h),
-    subst (λ (x : Decoded). Answers (decodedVerdict x) (decodeNumber s l start)) (sym e) (decode-number s l start),
+    subst (λ (x : Decoded). Answers (decodedVerdict s x) (decodeNumber s l start)) (sym e) (decode-number s l start),
   ),
 )
 
-pub encode-promises : (i : Instruction) (l : List ℕ) (start : Words) (r : Encoded) (m : List ℕ) → (r ≡ encodeAnswer i l start) × (m ≡ encodeWords i l start) → (r ≡ encodeAnswer i l start) × ((m ≡ encodeWords i l start) × ((r ≡ encoded.Done → decodeOf (streamOf i) m start ≡ decoded.Taken i) × Answers (encodedVerdict r) (encodeNumber i l start)))
+pub encode-promises : (i : Instruction) (l : List ℕ) (start : Words) (r : Encoded) (m : List ℕ) → (r ≡ encodeAnswer i l start) × (m ≡ encodeWords i l start) → (r ≡ encodeAnswer i l start) × ((m ≡ encodeWords i l start) × ((r ≡ Done → decodeOf (streamOf i) m start ≡ Taken i) × Answers (encodedVerdict r) (encodeNumber i l start)))
 encode-promises i l start r m e = (
   e .0,
   (

@@ -1,3 +1,4 @@
 -- The root of what the contracts cite.
 pub mod Pair
-pub mod Codec
+pub mod Buffer
+pub mod Code

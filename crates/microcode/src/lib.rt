@@ -1,8 +1,10 @@
 // The word pairs that are taken, as records with AMD's field names: decoder and encoder.
 //
 // A decoder is told which stream a pair stands in, since ALU pairs and control-flow pairs are told apart by their place only.
-use bits::field;
-use checks::Rule;
+mod pair;
+
+use checks::Place;
+use checks::Verdict;
 use formats::alu::AluWord0;
 use formats::alu::AluWord1Op2;
 use formats::alu::AluWord1Op3;
@@ -12,10 +14,12 @@ use formats::cf_alu::CfAluWord0;
 use formats::cf_alu::CfAluWord1;
 use formats::export::CfAllocExportWord0;
 use formats::export::CfAllocExportWord1Swiz;
+use units::Slots;
 use units::Words;
 ghost use mathlib.Core.Path.{_≡_};
-ghost use Rattle.microcode.specs.Pair.{openerPairOf, cfPairOf, aluPairOf, streamOf, encodable, lowOf, highOf};
-ghost use Rattle.microcode.specs.Codec.{decodeOf, putAnswer, putWords, encodeAnswer, encodeWords, Rewritten, Answers, decodedVerdict, decodeNumber, encodedVerdict, encodeNumber};
+ghost use Rattle.microcode.specs.Pair.{streamOf};
+ghost use Rattle.microcode.specs.Buffer.{decodeOf, encodeAnswer, encodeWords, Rewritten, Answers, notTaken, refused, decodedVerdict, decodeNumber, encodedVerdict, encodeNumber};
+ghost use Rattle.microcode.specs.Code.{putAnswer, putWords};
 
 // The five forms of a pair.
 pub enum Instruction {
@@ -32,13 +36,21 @@ pub enum Stream {
     Alu,
 }
 
+// What the decoder answers.
 pub enum Decoded {
-    Refused(Rule),
+    // The pair isn't wholly in the words.
+    Outside,
+    // Its number isn't taken.
+    NotTaken,
     Taken(Instruction),
 }
 
+// What the encoder answers.
 pub enum Encoded {
-    Refused(Rule),
+    // A field exceeds its width, or the record isn't of a taken form.
+    NoRecord,
+    // The words don't fit at the given start.
+    NoRoom,
     Done,
 }
 
@@ -47,20 +59,20 @@ pub enum Encoded {
 pub fn decode(words: &[u32], start: Words, stream: Stream) -> Decoded
     ensures { λ r. ⌜ r ≡ decodeOf stream (now (words .entry)) start ⌝ }
     ensures { λ r. ⌜ ((i : Instruction) → r ≡ Decoded.Taken i → Rewritten i (now (words .entry)) start) ⌝ }
-    ensures { λ r. ⌜ Answers (decodedVerdict r) (decodeNumber stream (now (words .entry)) start) ⌝ }
+    ensures { λ r. ⌜ Answers (decodedVerdict stream r) (decodeNumber stream (now (words .entry)) start) ⌝ }
 {
     let at = start.0;
     if words.len() < 2 {
-        return Decoded::Refused(Rule::PackLength);
+        return Decoded::Outside;
     }
     if words.len() - 2 < at {
-        return Decoded::Refused(Rule::PackLength);
+        return Decoded::Outside;
     }
     let low = words[at];
     let high = words[at + 1];
     match stream {
-        Stream::ControlFlow => cf_pair(low, high),
-        Stream::Alu => alu_pair(low, high),
+        Stream::ControlFlow => pair::cf_pair(low, high),
+        Stream::Alu => pair::alu_pair(low, high),
     }
 }
 
@@ -73,141 +85,67 @@ pub fn encode(i: Instruction, out: &mut [u32], start: Words) -> Encoded
     ensures { λ r. ⌜ Answers (encodedVerdict r) (encodeNumber i (now (out .entry)) start) ⌝ }
 {
     let at = start.0;
-    if !is_encodable(i) {
-        return Encoded::Refused(Rule::EncodeRecord);
+    if !pair::is_encodable(i) {
+        return Encoded::NoRecord;
     }
-    let low = low_word(i);
-    let high = high_word(i);
+    let low = pair::low_word(i);
+    let high = pair::high_word(i);
     if out.len() < at {
-        return Encoded::Refused(Rule::EncodeRoom);
+        return Encoded::NoRoom;
     }
     put_pair(&mut out[at..], low, high)
 }
 
-// The instruction that two words hold in the control-flow section.
-fn cf_pair(low: u32, high: u32) -> Decoded
-    ensures { λ r. ⌜ r ≡ cfPairOf low high ⌝ }
+// The answers by the paper's table: number, place and slot.
+pub fn decoded_verdict(stream: Stream, d: Decoded) -> Verdict
+    ensures { λ r. ⌜ r ≡ decodedVerdict stream d ⌝ }
 {
-    if field(high, 29, 1) == 1 {
-        return opener_pair(low, high);
-    }
-    let number = field(high, 23, 7);
-    if opcodes::cf_taken(number) {
-        return Decoded::Taken(Instruction::Cf(
-            formats::cf::read_word0(low),
-            formats::cf::read_word1(high),
-        ));
-    }
-    if opcodes::export_taken(number) {
-        return Decoded::Taken(Instruction::Export(
-            formats::export::read_word0(low),
-            formats::export::read_word1(high),
-        ));
-    }
-    Decoded::Refused(Rule::CfNumber)
-}
-
-// A control-flow pair with bit 29 set: an ALU clause opener.
-fn opener_pair(low: u32, high: u32) -> Decoded
-    ensures { λ r. ⌜ r ≡ openerPairOf low high ⌝ }
-{
-    let number = field(high, 26, 4);
-    if opcodes::cf_alu_taken(number) {
-        return Decoded::Taken(Instruction::CfAlu(
-            formats::cf_alu::read_word0(low),
-            formats::cf_alu::read_word1(high),
-        ));
-    }
-    Decoded::Refused(Rule::CfNumber)
-}
-
-// The instruction that two words hold in an ALU clause.
-fn alu_pair(low: u32, high: u32) -> Decoded
-    ensures { λ r. ⌜ r ≡ aluPairOf low high ⌝ }
-{
-    if field(high, 15, 3) == 0 {
-        let number = field(high, 7, 11);
-        if opcodes::alu::is_taken(opcodes::alu::op2_class(number)) {
-            return Decoded::Taken(Instruction::Op2(
-                formats::alu::read_word0(low),
-                formats::alu::read_op2(high),
-            ));
-        }
-        return Decoded::Refused(Rule::AluNumber);
-    }
-    let number = field(high, 13, 5);
-    if opcodes::alu::is_taken(opcodes::alu::op3_class(number)) {
-        return Decoded::Taken(Instruction::Op3(
-            formats::alu::read_word0(low),
-            formats::alu::read_op3(high),
-        ));
-    }
-    Decoded::Refused(Rule::AluNumber)
-}
-
-// Whether a record is of a taken form and each of its fields within its width.
-fn is_encodable(i: Instruction) -> bool
-    ensures { λ r. ⌜ r ≡ encodable i ⌝ }
-{
-    match i {
-        Instruction::CfAlu(a, b) => {
-            formats::cf_alu::word0_fits(a)
-                & formats::cf_alu::word1_fits(b)
-                & opcodes::cf_alu_taken(b.cf_inst)
-        }
-        Instruction::Cf(a, b) => {
-            formats::cf::word0_fits(a) & formats::cf::word1_fits(b) & opcodes::cf_taken(b.cf_inst)
-        }
-        Instruction::Export(a, b) => {
-            formats::export::word0_fits(a)
-                & formats::export::word1_fits(b)
-                & opcodes::export_taken(b.cf_inst)
-        }
-        Instruction::Op2(a, b) => {
-            let class = opcodes::alu::op2_class(b.alu_inst);
-            formats::alu::word0_fits(a) & formats::alu::op2_fits(b) & opcodes::alu::is_taken(class)
-        }
-        Instruction::Op3(a, b) => {
-            let class = opcodes::alu::op3_class(b.alu_inst);
-            formats::alu::word0_fits(a) & formats::alu::op3_fits(b) & opcodes::alu::is_taken(class)
-        }
+    match d {
+        Decoded::Outside => refused(2),
+        Decoded::NotTaken => refused(not_taken(stream)),
+        Decoded::Taken(_) => Verdict::Accepted,
     }
 }
 
-// The two words of a record.
-fn low_word(i: Instruction) -> u32
-    ensures { λ r. ⌜ r ≡ lowOf i ⌝ }
+pub fn encoded_verdict(e: Encoded) -> Verdict
+    ensures { λ r. ⌜ r ≡ encodedVerdict e ⌝ }
 {
-    match i {
-        Instruction::CfAlu(a, _) => formats::cf_alu::write_word0(a),
-        Instruction::Cf(a, _) => formats::cf::write_word0(a),
-        Instruction::Export(a, _) => formats::export::write_word0(a),
-        Instruction::Op2(a, _) => formats::alu::write_word0(a),
-        Instruction::Op3(a, _) => formats::alu::write_word0(a),
+    match e {
+        Encoded::NoRecord => refused(21),
+        Encoded::NoRoom => refused(20),
+        Encoded::Done => Verdict::Accepted,
     }
 }
 
-fn high_word(i: Instruction) -> u32
-    ensures { λ r. ⌜ r ≡ highOf i ⌝ }
+fn refused(rule: u8) -> Verdict
+    ensures { λ r. ⌜ r ≡ refused rule ⌝ }
 {
-    match i {
-        Instruction::CfAlu(_, b) => formats::cf_alu::write_word1(b),
-        Instruction::Cf(_, b) => formats::cf::write_word1(b),
-        Instruction::Export(_, b) => formats::export::write_word1(b),
-        Instruction::Op2(_, b) => formats::alu::write_op2(b),
-        Instruction::Op3(_, b) => formats::alu::write_op3(b),
+    Verdict::Refused {
+        rule,
+        place: Place::Whole,
+        slot: Slots(0),
     }
 }
 
-// Two words at the beginning of a part; 20 where it has fewer.
+// A number that isn't taken in a stream.
+fn not_taken(stream: Stream) -> u8
+    ensures { λ r. ⌜ r ≡ notTaken stream ⌝ }
+{
+    match stream {
+        Stream::ControlFlow => 4,
+        Stream::Alu => 11,
+    }
+}
+
+// Two words at the beginning of a part, where it has as many.
 fn put_pair(part: &mut [u32], low: u32, high: u32) -> Encoded
-    ensures { λ r. ⌜ r ≡ putAnswer (now (part .entry)) 0 ⌝ }
-    ensures { λ r. ⌜ now (part .exit) ≡ putWords low high (now (part .entry)) 0 ⌝ }
+    ensures { λ r. ⌜ r ≡ putAnswer (now (part .entry)) ⌝ }
+    ensures { λ r. ⌜ now (part .exit) ≡ putWords low high (now (part .entry)) ⌝ }
 {
     if 2 <= part.len() {
         part[0] = low;
         part[1] = high;
         return Encoded::Done;
     }
-    Encoded::Refused(Rule::EncodeRoom)
+    Encoded::NoRoom
 }

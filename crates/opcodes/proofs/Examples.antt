@@ -1,59 +1,62 @@
--- The tables by computation: how many numbers each class has, and that each number is listed once, in rising order.
+-- The tables by computation: how many numbers each class has, and that each number is listed once.
 use mathlib.Core.Path.{_≡_, refl}
-use mathlib.Core.Bool.{Bool, true, _&&_}
+use mathlib.Core.Bool.{Bool, true, false, cond, not, _&&_, _||_}
 use mathlib.Core.List.{List, [], _∷_}
-use Prim.Native.Nat.{ℕ, suc, _+_}
-use lib.Dec.{ltb}
+use Prim.Native.Nat.{ℕ, suc}
+use lib.Dec.{eqb}
 use lib.ListN.{length}
 use Rattle.opcodes.specs.declared.alu.Class.{Class}
 use Rattle.opcodes.specs.declared.alu.Unit.{Unit}
-use Rattle.opcodes.specs.declared.alu.Unit.the-variants.{NotTaken, Any, Vector, Trans}
+use Rattle.opcodes.specs.declared.alu.Unit.the-variants.{Any, Vector, Trans}
 use Rattle.opcodes.specs.declared.alu.Issue.{Issue}
-use Rattle.opcodes.specs.declared.alu.Issue.the-variants.{Plain, Predicate, Kill, Mova, Reduction}
+use Rattle.opcodes.specs.declared.alu.Issue.the-variants.{Predicate, Kill, Mova, Reduction}
 use Rattle.opcodes.specs.Table.{Row}
-use Rattle.opcodes.specs.Alu.{op2, op3, op2Class, op3Class, notTaken}
+use Rattle.opcodes.specs.Alu.{op2, op3, op2Class, op3Class, notTaken, isUnit, isIssue}
+use Rattle.opcodes.specs.Numbers.{cf, cfAlu, textureFetches}
 
-abbrev rising : {A : Type 0} → ℕ → List (Row A) → Bool
-rising n [] = true
-rising n (r ∷ rs) = ltb n (suc (r .number)) && rising (suc (r .number)) rs
+-- no number of a table stands in it a second time
+abbrev isListed : {A : Type 0} → ℕ → List (Row A) → Bool
+isListed n [] = false
+isListed n (r ∷ rs) = eqb n (r .number) || isListed n rs
 
-abbrev count : (Class → ℕ) → List (Row Class) → ℕ
+abbrev once : {A : Type 0} → List (Row A) → Bool
+once [] = true
+once (r ∷ rs) = not (isListed (r .number) rs) && once rs
+
+abbrev count : (Class → Bool) → List (Row Class) → ℕ
 count f [] = 0
-count f (r ∷ rs) = f (r .answer) + count f rs
+count f (r ∷ rs) = cond (f (r .answer)) (suc (count f rs)) (count f rs)
 
-abbrev units : Unit → ℕ → ℕ → ℕ → ℕ
-units NotTaken a v t = 0
-units Any a v t = a
-units Vector a v t = v
-units Trans a v t = t
+abbrev ofUnit : Unit → List (Row Class) → ℕ
+ofUnit u rs = count (λ c. isUnit (c .unit) u) rs
 
-abbrev issues : Issue → ℕ → ℕ → ℕ → ℕ → ℕ
-issues Plain p k m r = 0
-issues Predicate p k m r = p
-issues Kill p k m r = k
-issues Mova p k m r = m
-issues Reduction p k m r = r
+abbrev ofIssue : Issue → List (Row Class) → ℕ
+ofIssue i rs = count (λ c. isIssue (c .issue) i) rs
 
-op2-once : rising 0 op2 ≡ true
+op2-once : once op2 ≡ true
 unfolding op2
 op2-once = refl
 
-op3-once : rising 0 op3 ≡ true
+op3-once : once op3 ≡ true
 unfolding op3
 op3-once = refl
 
+cf-once : (once cf ≡ true) × (once cfAlu ≡ true) × (once textureFetches ≡ true)
+unfolding cf cfAlu textureFetches
+cf-once = (refl, refl, refl)
+
 -- 96 OP2 numbers are taken: 67 in any unit, 8 vector only, 21 trans only
-op2-units : (length op2 ≡ 96) × (count (λ c. units (c .unit) 1 0 0) op2 ≡ 67) × (count (λ c. units (c .unit) 0 1 0) op2 ≡ 8) × (count (λ c. units (c .unit) 0 0 1) op2 ≡ 21)
+op2-units : (length op2 ≡ 96) × (ofUnit Any op2 ≡ 67) × (ofUnit Vector op2 ≡ 8) × (ofUnit Trans op2 ≡ 21)
 unfolding op2
 op2-units = (refl, refl, refl, refl)
 
 -- 24 predicate setters, 4 kills, 3 MOVA, 4 reductions
-op2-issues : (count (λ c. issues (c .issue) 1 0 0 0) op2 ≡ 24) × (count (λ c. issues (c .issue) 0 1 0 0) op2 ≡ 4) × (count (λ c. issues (c .issue) 0 0 1 0) op2 ≡ 3) × (count (λ c. issues (c .issue) 0 0 0 1) op2 ≡ 4)
+op2-issues : (ofIssue Predicate op2 ≡ 24) × (ofIssue Kill op2 ≡ 4) × (ofIssue Mova op2 ≡ 3) × (ofIssue Reduction op2 ≡ 4)
 unfolding op2
 op2-issues = (refl, refl, refl, refl)
 
 -- 15 OP3 numbers are taken: 11 in any unit, 4 trans only
-op3-units : (length op3 ≡ 15) × (count (λ c. units (c .unit) 1 0 0) op3 ≡ 11) × (count (λ c. units (c .unit) 0 0 1) op3 ≡ 4)
+op3-units : (length op3 ≡ 15) × (ofUnit Any op3 ≡ 11) × (ofUnit Trans op3 ≡ 4)
 unfolding op3
 op3-units = (refl, refl, refl)
 

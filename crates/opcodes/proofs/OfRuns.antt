@@ -1,7 +1,7 @@
 -- A definition over a run of numbers, by one test that is computed over the run. Assumes nothing.
 use mathlib.Core.Path.{_≡_, refl, ap, sym, _∙_}
 use mathlib.Core.Logic.{⊎-elim}
-use mathlib.Core.Bool.{Bool, true, false, _&&_}
+use mathlib.Core.Bool.{Bool, true, _&&_}
 use mathlib.Core.List.{List, [], _∷_, map}
 use Prim.Native.Nat.{ℕ, zero, suc, _+_, _≤_, _<_}
 use native.Mathlib.Nat.{eq-or-lt-of-le}
@@ -9,6 +9,7 @@ use native.Mathlib.Omega.{arith}
 use lib.Dec.{ltb}
 use lib.ListN.{getD, drop, replicate}
 use borrow.Author.Tests.{ne-eqb, ltb-true}
+use Rattle.laws.proofs.OfTests.{both}
 use Rattle.opcodes.specs.Table.{Row, lookup}
 
 -- lo, lo + 1, ..: n of them
@@ -31,11 +32,6 @@ pub record Listed {A : Type 0} (other : A) (rs : List (Row A)) (f : ℕ → A) :
 -- it is a at each of the n numbers from lo on, if the table is
 pub run : {A : Type 0} {other : A} {rs : List (Row A)} {f : ℕ → A} → Listed other rs f → (lo n : ℕ) (a : A) → map (lookup other rs) (upFrom lo n) ≡ replicate n a → (k : ℕ) → lo ≤ k → k < lo + n → a ≡ f k
 run {other = other} {rs = rs} d lo n a e k h j = sym (d .agrees k ∙ in-run (lookup other rs) lo n a e k h j)
-
--- both halves of a test
-pub both : (a b : Bool) → a && b ≡ true → (a ≡ true) × (b ≡ true)
-both true b h = (refl, h)
-both false b h = let z : _≡_ {A = ℕ} 0 1 = cc in absurd (omega arith)
 
 -- every number of a table is below lo
 abbrev below : {A : Type 0} → ℕ → List (Row A) → Bool

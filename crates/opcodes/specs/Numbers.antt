@@ -1,89 +1,78 @@
--- The numbers that are taken, with AMD's mnemonics: control flow (document 01, "Control-flow words"; document 002, section 10.1) and
--- fetches (document 002, sections 9.3 and 9.4).
+-- The numbers of control flow, and what each is (document 01, "Control-flow words"; document 002, section 10.1), and those of fetches
+-- (document 002, sections 9.3 and 9.4), with AMD's mnemonics. A number that no row has is not taken.
 use Prim.Native.Nat.{ℕ}
-use Prim.Native.String.{String}
 use mathlib.Core.Bool.{Bool, true, false}
-use mathlib.Core.List.{List, [], _∷_}
-use Rattle.opcodes.specs.Table.{Row, row, lookup}
+use mathlib.Core.List.{List, [], _∷_, _++_}
+use Rattle.opcodes.specs.Table.{Row, row, rowsFor, lookup}
+use Rattle.opcodes.specs.declared.cf.FetchKind.{FetchKind}
+use Rattle.opcodes.specs.declared.cf.FetchKind.the-variants.{Vertex, Texture}
+use Rattle.opcodes.specs.declared.cf.Branch.the-variants.{LoopEnd, LoopStart, BreakOrContinue, Jump, Else, Pop}
+use Rattle.opcodes.specs.declared.cf.Control.{Control}
+use Rattle.opcodes.specs.declared.cf.Control.the-variants.{NotTaken, Nop, Fetch, Branch, Export, Alu}
 
-abbrev pub Numbers : Type 0
-Numbers = List (Row Bool)
-
-abbrev taken : ℕ → String → Row Bool
-taken n m = row n m true
-
--- high bits 29:26 of a pair with bit 29 set: the ALU clause openers (CF_ALU)
-unfoldable pub cfAlu : Numbers
-cfAlu = taken 8 "ALU" ∷ taken 9 "PUSH_BEFORE" ∷ taken 10 "POP_AFTER" ∷ taken 11 "POP2_AFTER" ∷ []
-
--- high bits 29:23 of a pair with bit 29 clear, but for exports
-unfoldable pub cf : Numbers
-cf =
-    taken 0 "NOP"
-    ∷ taken 1 "TEX"
-    ∷ taken 2 "VTX"
-    ∷ taken 3 "VTX_TC"
-    ∷ taken 5 "LOOP_END"
-    ∷ taken 6 "LOOP_START_DX10"
-    ∷ taken 8 "LOOP_CONTINUE"
-    ∷ taken 9 "LOOP_BREAK"
-    ∷ taken 10 "JUMP"
-    ∷ taken 13 "ELSE"
-    ∷ taken 14 "POP"
+-- a pair with high bit 29 set, an ALU clause opener (CF_ALU): whether it pushes M, and how many M it pops
+unfoldable pub cfAlu : List (Row Control)
+cfAlu =
+    row 8 "ALU" (Alu false 0)
+    ∷ row 9 "PUSH_BEFORE" (Alu true 0)
+    ∷ row 10 "POP_AFTER" (Alu false 1)
+    ∷ row 11 "POP2_AFTER" (Alu false 2)
     ∷ []
 
--- the exports among them
-unfoldable pub exports : Numbers
-exports = taken 39 "EXPORT" ∷ taken 40 "EXPORT_DONE" ∷ []
+-- any other pair
+unfoldable pub cf : List (Row Control)
+cf =
+    row 0 "NOP" Nop
+    ∷ row 1 "TEX" (Fetch Texture)
+    ∷ row 2 "VTX" (Fetch Vertex)
+    ∷ row 3 "VTX_TC" (Fetch Vertex)
+    ∷ row 5 "LOOP_END" (Branch LoopEnd)
+    ∷ row 6 "LOOP_START_DX10" (Branch LoopStart)
+    ∷ row 8 "LOOP_CONTINUE" (Branch BreakOrContinue)
+    ∷ row 9 "LOOP_BREAK" (Branch BreakOrContinue)
+    ∷ row 10 "JUMP" (Branch Jump)
+    ∷ row 13 "ELSE" (Branch Else)
+    ∷ row 14 "POP" (Branch Pop)
+    ∷ row 39 "EXPORT" Export
+    ∷ row 40 "EXPORT_DONE" Export
+    ∷ []
+
+unfoldable pub cfAluControl : ℕ → Control
+cfAluControl n = lookup NotTaken cfAlu n
+
+unfoldable pub cfControl : ℕ → Control
+cfControl n = lookup NotTaken cf n
+
+abbrev pub isTaken : Control → Bool
+isTaken NotTaken = false
+isTaken Nop = true
+isTaken (Fetch kind) = true
+isTaken (Branch b) = true
+isTaken Export = true
+isTaken (Alu push pops) = true
+
+abbrev pub isExport : Control → Bool
+isExport NotTaken = false
+isExport Nop = false
+isExport (Fetch kind) = false
+isExport (Branch b) = false
+isExport Export = true
+isExport (Alu push pops) = false
 
 -- section 9.3, for VTX and VTX_TC clauses
-unfoldable pub vertexFetches : Numbers
-vertexFetches = taken 0 "FETCH" ∷ taken 1 "SEMANTIC" ∷ []
+unfoldable pub vertexFetches : List (Row Bool)
+vertexFetches = rowsFor true ((0, "FETCH") ∷ (1, "SEMANTIC") ∷ [])
 
 -- section 9.4, for TEX clauses
-unfoldable pub textureFetches : Numbers
+unfoldable pub textureFetches : List (Row Bool)
 textureFetches =
-    taken 2 "MEM"
-    ∷ taken 3 "LD"
-    ∷ taken 4 "GET_TEXTURE_RESINFO"
-    ∷ taken 5 "GET_NUMBER_OF_SAMPLES"
-    ∷ taken 6 "GET_COMP_TEX_LOD"
-    ∷ taken 7 "GET_GRADIENTS_H"
-    ∷ taken 8 "GET_GRADIENTS_V"
-    ∷ taken 10 "KEEP_GRADIENTS"
-    ∷ taken 11 "SET_GRADIENTS_H"
-    ∷ taken 12 "SET_GRADIENTS_V"
-    ∷ taken 14 "SET_CUBEMAP_INDEX"
-    ∷ taken 16 "SAMPLE"
-    ∷ taken 17 "SAMPLE_L"
-    ∷ taken 18 "SAMPLE_LB"
-    ∷ taken 19 "SAMPLE_LZ"
-    ∷ taken 20 "SAMPLE_G"
-    ∷ taken 21 "SAMPLE_G_L"
-    ∷ taken 22 "SAMPLE_G_LB"
-    ∷ taken 23 "SAMPLE_G_LZ"
-    ∷ taken 24 "SAMPLE_C"
-    ∷ taken 25 "SAMPLE_C_L"
-    ∷ taken 26 "SAMPLE_C_LB"
-    ∷ taken 27 "SAMPLE_C_LZ"
-    ∷ taken 28 "SAMPLE_C_G"
-    ∷ taken 29 "SAMPLE_C_G_L"
-    ∷ taken 30 "SAMPLE_C_G_LB"
-    ∷ taken 31 "SAMPLE_C_G_LZ"
-    ∷ []
+    rowsFor true ((2, "MEM") ∷ (3, "LD") ∷ (4, "GET_TEXTURE_RESINFO") ∷ (5, "GET_NUMBER_OF_SAMPLES") ∷ (6, "GET_COMP_TEX_LOD") ∷ [])
+    ++ rowsFor true ((7, "GET_GRADIENTS_H") ∷ (8, "GET_GRADIENTS_V") ∷ (10, "KEEP_GRADIENTS") ∷ (11, "SET_GRADIENTS_H") ∷ [])
+    ++ rowsFor true ((12, "SET_GRADIENTS_V") ∷ (14, "SET_CUBEMAP_INDEX") ∷ (16, "SAMPLE") ∷ (17, "SAMPLE_L") ∷ (18, "SAMPLE_LB") ∷ [])
+    ++ rowsFor true ((19, "SAMPLE_LZ") ∷ (20, "SAMPLE_G") ∷ (21, "SAMPLE_G_L") ∷ (22, "SAMPLE_G_LB") ∷ (23, "SAMPLE_G_LZ") ∷ [])
+    ++ rowsFor true ((24, "SAMPLE_C") ∷ (25, "SAMPLE_C_L") ∷ (26, "SAMPLE_C_LB") ∷ (27, "SAMPLE_C_LZ") ∷ (28, "SAMPLE_C_G") ∷ [])
+    ++ rowsFor true ((29, "SAMPLE_C_G_L") ∷ (30, "SAMPLE_C_G_LB") ∷ (31, "SAMPLE_C_G_LZ") ∷ [])
 
--- whether a number is taken
-unfoldable pub cfAluTaken : ℕ → Bool
-cfAluTaken n = lookup false cfAlu n
-
-unfoldable pub cfTaken : ℕ → Bool
-cfTaken n = lookup false cf n
-
-unfoldable pub exportTaken : ℕ → Bool
-exportTaken n = lookup false exports n
-
-unfoldable pub vertexFetchTaken : ℕ → Bool
-vertexFetchTaken n = lookup false vertexFetches n
-
-unfoldable pub textureFetchTaken : ℕ → Bool
-textureFetchTaken n = lookup false textureFetches n
+unfoldable pub fetchTaken : FetchKind → ℕ → Bool
+fetchTaken Vertex n = lookup false vertexFetches n
+fetchTaken Texture n = lookup false textureFetches n

@@ -13,6 +13,11 @@ pub record Row (A : Type 0) : Type 0 where
 abbrev pub row : {A : Type 0} → ℕ → String → A → Row A
 row n m a = record { number = n; mnemonic = m; answer = a }
 
+-- several numbers of which the same is to be known
+abbrev pub rowsFor : {A : Type 0} → A → List (ℕ × String) → List (Row A)
+rowsFor a [] = []
+rowsFor a (n ∷ ns) = row (n .0) (n .1) a ∷ rowsFor a ns
+
 -- what a table knows of n, and where it has no row of that number, other
 abbrev pub lookup : {A : Type 0} → A → List (Row A) → ℕ → A
 lookup other [] n = other

@@ -1,6 +1,6 @@
 // The class of each OP2 and OP3 number: where it may run, what counts against its group, how many sources it reads.
 ghost use mathlib.Core.Path.{_≡_};
-ghost use Rattle.opcodes.specs.Alu.{op2Class, op3Class, isTaken};
+ghost use Rattle.opcodes.specs.Alu.{op2Class, op3Class, unitNumber, issueNumber, isUnit, isIssue, isTaken};
 
 // The unit class: any unit, one of the four vector units, or Trans.
 pub enum Unit {
@@ -192,13 +192,47 @@ pub fn op3_class(number: u32) -> Class
     }
 }
 
+// A number for each unit class, and for each issue kind.
+fn unit_number(unit: Unit) -> u32
+    ensures { λ r. ⌜ r ≡ unitNumber unit ⌝ }
+{
+    match unit {
+        Unit::NotTaken => 0,
+        Unit::Any => 1,
+        Unit::Vector => 2,
+        Unit::Trans => 3,
+    }
+}
+
+fn issue_number(issue: Issue) -> u32
+    ensures { λ r. ⌜ r ≡ issueNumber issue ⌝ }
+{
+    match issue {
+        Issue::Plain => 0,
+        Issue::Predicate => 1,
+        Issue::Kill => 2,
+        Issue::Mova => 3,
+        Issue::Reduction => 4,
+    }
+}
+
+// Whether two unit classes are the same, and two issue kinds.
+pub fn is_unit(a: Unit, b: Unit) -> bool
+    ensures { λ r. ⌜ r ≡ isUnit a b ⌝ }
+{
+    unit_number(a) == unit_number(b)
+}
+
+pub fn is_issue(a: Issue, b: Issue) -> bool
+    ensures { λ r. ⌜ r ≡ isIssue a b ⌝ }
+{
+    issue_number(a) == issue_number(b)
+}
+
 // Whether the number of a class is taken.
 pub fn is_taken(class: Class) -> bool
     ensures { λ r. ⌜ r ≡ isTaken class ⌝ }
 {
     let unit = class.unit;
-    match unit {
-        Unit::NotTaken => false,
-        _ => true,
-    }
+    !is_unit(unit, Unit::NotTaken)
 }

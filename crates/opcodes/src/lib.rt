@@ -1,52 +1,27 @@
-// Which instruction numbers are taken, and the class of each ALU number.
+// Which instruction numbers are taken, what each control-flow number is, and the class of each ALU number.
 //
 // specs/ lists every number with its mnemonic; here each is decided by a match over runs of numbers.
 pub mod alu;
+pub mod cf;
 
+use cf::FetchKind;
 ghost use mathlib.Core.Path.{_≡_};
-ghost use Rattle.opcodes.specs.Numbers.{cfAluTaken, cfTaken, exportTaken, vertexFetchTaken, textureFetchTaken};
+ghost use Rattle.opcodes.specs.Numbers.{fetchTaken};
+ghost use Rattle.opcodes.specs.declared.cf.FetchKind.the-variants as kinds;
 
-// An ALU clause opener's number.
-pub fn cf_alu_taken(number: u32) -> bool
-    ensures { λ r. ⌜ r ≡ cfAluTaken number ⌝ }
+// The number of a fetch in a clause of that kind.
+pub fn fetch_taken(kind: FetchKind, number: u32) -> bool
+    ensures { λ r. ⌜ r ≡ fetchTaken kind number ⌝ }
 {
-    match number {
-        // ALU, PUSH_BEFORE, POP_AFTER, POP2_AFTER
-        8..=11 => true,
-        _ => false,
+    match kind {
+        FetchKind::Vertex => vertex_fetch_taken(number),
+        FetchKind::Texture => texture_fetch_taken(number),
     }
 }
 
-// The number of any other control-flow instruction, but for exports.
-pub fn cf_taken(number: u32) -> bool
-    ensures { λ r. ⌜ r ≡ cfTaken number ⌝ }
-{
-    match number {
-        // NOP, TEX, VTX, VTX_TC
-        0..=3 => true,
-        // LOOP_END, LOOP_START_DX10
-        5..=6 => true,
-        // LOOP_CONTINUE, LOOP_BREAK, JUMP
-        8..=10 => true,
-        // ELSE, POP
-        13..=14 => true,
-        _ => false,
-    }
-}
-
-pub fn export_taken(number: u32) -> bool
-    ensures { λ r. ⌜ r ≡ exportTaken number ⌝ }
-{
-    match number {
-        // EXPORT, EXPORT_DONE
-        39..=40 => true,
-        _ => false,
-    }
-}
-
-// The number of a fetch in a VTX or VTX_TC clause.
-pub fn vertex_fetch_taken(number: u32) -> bool
-    ensures { λ r. ⌜ r ≡ vertexFetchTaken number ⌝ }
+// Section 9.3.
+fn vertex_fetch_taken(number: u32) -> bool
+    ensures { λ r. ⌜ r ≡ fetchTaken kinds.Vertex number ⌝ }
 {
     match number {
         // FETCH, SEMANTIC
@@ -55,9 +30,9 @@ pub fn vertex_fetch_taken(number: u32) -> bool
     }
 }
 
-// The number of a fetch in a TEX clause.
-pub fn texture_fetch_taken(number: u32) -> bool
-    ensures { λ r. ⌜ r ≡ textureFetchTaken number ⌝ }
+// Section 9.4.
+fn texture_fetch_taken(number: u32) -> bool
+    ensures { λ r. ⌜ r ≡ fetchTaken kinds.Texture number ⌝ }
 {
     match number {
         // MEM, LD, GET_TEXTURE_RESINFO, GET_NUMBER_OF_SAMPLES, GET_COMP_TEX_LOD, GET_GRADIENTS_H, GET_GRADIENTS_V

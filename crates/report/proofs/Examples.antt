@@ -3,14 +3,13 @@ use mathlib.Core.Path.{_≡_, refl}
 use mathlib.Core.List.{[], _∷_}
 use Prim.Native.Nat.{_-_, _^_}
 use Rattle.units.specs.Units.{quadwords, slots}
-use Rattle.checks.specs.declared.Rule.the-variants.{CardLine, NotGranted}
 use Rattle.checks.specs.declared.Place.the-variants.{Line, Quadword}
 use Rattle.checks.specs.declared.Verdict.{Verdict}
 use Rattle.checks.specs.declared.Verdict.the-variants.{Accepted, Refused}
 use Rattle.report.specs.declared.ReportBuild.the-variants.{Production, Debug}
 use Rattle.report.specs.declared.Written.the-variants.{Length, TooSmall}
+use Rattle.ascii.specs.Ascii.{ascii}
 use Rattle.ascii.specs.Decimal.{decimal, decimalWithin}
-use Rattle.report.specs.Text.{ascii}
 use Rattle.report.specs.Report.{reportLines, reportBytes}
 use Rattle.report.specs.Buffer.{writtenOf, bufferAfter}
 
@@ -53,14 +52,14 @@ accepted-debug = refl
 
 -- 15 at quadword 40, slot 3
 abbrev not-granted : Verdict
-not-granted = Refused NotGranted (Quadword (quadwords 40)) (slots 3)
+not-granted = Refused 15 (Quadword (quadwords 40)) (slots 3)
 
 refused-debug : reportBytes Debug not-granted ≡ ascii "build=debug\nverdict=15\nplace=40\nslot=3\nrelease=no\n"
 unfolding reportBytes reportLines decimal decimalWithin
 refused-debug = refl
 
 -- line 7 of the card is at fault: the build is not shown, though line 2 was good
-card-line : reportBytes Production (Refused CardLine (Line 7) (slots 0)) ≡ ascii "build=unknown\nverdict=1\nplace=7\nslot=0\nrelease=no\n"
+card-line : reportBytes Production (Refused 1 (Line 7) (slots 0)) ≡ ascii "build=unknown\nverdict=1\nplace=7\nslot=0\nrelease=no\n"
 unfolding reportBytes reportLines decimal decimalWithin
 card-line = refl
 

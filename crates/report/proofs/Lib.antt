@@ -1,5 +1,5 @@
 -- The laws that proofs cite, here and in the crates above.
-pub mod OfDecimal
+pub mod OfDigits
 pub mod OfBuffer
 pub mod OfReport
 pub mod OfLines

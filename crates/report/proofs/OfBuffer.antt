@@ -10,8 +10,10 @@ use native.Mathlib.Omega.{arith}
 use borrow.Author.Tests.{le-leb, lt-leb, leb-true}
 use lib.ListN.{length, getD, take, drop, set, length-append, length-take, length-set, take-append-drop}
 use lib.Seq.{take-all, drop-drop, paste, paste-zero, paste-suc, take-paste, drop-paste}
+use Rattle.laws.proofs.OfCases.{impossible}
 use Rattle.report.specs.declared.Written.the-variants.{Length, TooSmall}
-use Rattle.report.specs.Buffer.{room, writtenOf, bufferAfter, Appended}
+use Rattle.report.specs.Buffer.{room, writtenOf, bufferAfter}
+use Rattle.report.specs.Code.{Appended}
 
 -- nothing put
 pub none-appended : (at : ℕ) (buffer : List ℕ) → Appended at [] buffer buffer at
@@ -103,4 +105,4 @@ written-within bytes buffer n e = by (room bytes buffer) refl e
     by true h e =
         let same : n ≡ length bytes = cc in
         omega (arith, leb-true (length bytes) (length buffer) h)
-    by false h e = let z : _≡_ {A = ℕ} 0 1 = cc in omega arith
+    by false h e = impossible cc

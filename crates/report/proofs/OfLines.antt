@@ -10,7 +10,7 @@ use Rattle.report.specs.declared.ReportBuild.{ReportBuild}
 use Rattle.report.specs.declared.ReportBuild.the-variants.{Unknown}
 use Rattle.ascii.specs.Decimal.{decimal}
 use Rattle.report.specs.Report.{line, shownBuild, buildText, released, yesOrNo, reportLines, reportBytes}
-use Rattle.report.specs.Buffer.{Appended}
+use Rattle.report.specs.Code.{Appended}
 use Rattle.report.proofs.OfBuffer.{none-appended, both-appended, as-bytes}
 
 -- ---- the two choices, from what the code tests

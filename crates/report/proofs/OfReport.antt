@@ -1,67 +1,39 @@
 -- The report's bytes are five lines; release=yes is one of them exactly if the verdict is Accepted and the build is production; with
 -- verdict 1 the first is build=unknown. Assumes nothing.
 use mathlib.Core.Path.{_≡_, refl, sym, ap, subst, _∙_}
-use mathlib.Core.Bool.{Bool, true, false, cond}
+use mathlib.Core.Bool.{Bool, true, false, cond, not, false≢true}
 use mathlib.Core.List.{List, [], _∷_, _++_, append-assoc, List·Memᴰ, List·Memᴰ·head, List·Memᴰ·tail, List·Memᴰ·cases-cons, List·Memᴰ·eq-of-singleton}
 use mathlib.Core.Logic.{⊎-elim, _↔_}
 use Prim.Native.Nat.{ℕ, _+_, _^_, _≤_, _<_}
-use Prim.Native.Char.{code}
 use Prim.Native.String.{String}
 use native.Mathlib.Omega.{arith}
-use borrow.Author.Tests.{eq-eqb, ne-eqb, eqb-true}
+use borrow.Author.Tests.{eq-eqb, not-true}
 use lib.Dec.{eqb}
 use lib.ListN.{length, getD, length-append}
+use Rattle.laws.proofs.OfTests.{both}
+use Rattle.ascii.specs.Ascii.{ascii, lineFeed}
+use Rattle.ascii.specs.Decimal.{decimal}
+use Rattle.ascii.specs.Code.{feedless}
+use Rattle.ascii.proofs.OfDecimal.{at-most-20-digits}
+use Rattle.ascii.proofs.OfFeeds.{feedless-joined, feedless-decimal}
 use Rattle.units.specs.declared.Slots.{Slots}
-use Rattle.checks.specs.declared.Rule.the-variants.{CardLine}
 use Rattle.checks.specs.declared.Place.{Place}
 use Rattle.checks.specs.declared.Verdict.{Verdict}
 use Rattle.checks.specs.declared.Verdict.the-variants.{Accepted, Refused}
-use Rattle.checks.proofs.OfVerdict.{accepted-zero}
-use Rattle.checks.specs.Verdict.{verdictNumber, verdictPlace, verdictSlot}
+use Rattle.checks.specs.Verdict.{isAccepted, verdictNumber, verdictPlace, verdictSlot}
 use Rattle.report.specs.declared.ReportBuild.{ReportBuild}
 use Rattle.report.specs.declared.ReportBuild.the-variants.{Unknown, Production, Debug}
-use Rattle.ascii.specs.Decimal.{decimal}
-use Rattle.report.specs.Text.{ascii}
 use Rattle.report.specs.Report.{line, shownBuild, buildText, released, yesOrNo, reportLines, joined, reportBytes, beforeFirst, linesOf}
-use Rattle.report.proofs.OfDecimal.{each-digit, at-most-20-digits}
 
 -- ---- the bytes are those five lines and no others
 
-never-true : false ≡ true → ⊥
-never-true h = let z : _≡_ {A = ℕ} 0 1 = cc in omega arith
-
--- no line feed among the bytes
-abbrev feedless : List ℕ → Bool
-feedless [] = true
-feedless (b ∷ bs) = cond (eqb b 10) false (feedless bs)
-
 -- a line feed ends a line
-feed-ends : (body rest : List ℕ) → feedless body ≡ true → linesOf (body ++ (10 ∷ rest)) ≡ (body ++ (10 ∷ [])) ∷ linesOf rest
+feed-ends : (body rest : List ℕ) → feedless body ≡ true → linesOf (body ++ (lineFeed ∷ rest)) ≡ (body ++ (lineFeed ∷ [])) ∷ linesOf rest
 unfolding linesOf
 feed-ends [] rest h = refl
-feed-ends (b ∷ body) rest h = by (eqb b 10) h (feed-ends body rest)
-  where
-    by : (t : Bool) → cond t false (feedless body) ≡ true
-        → (feedless body ≡ true → linesOf (body ++ (10 ∷ rest)) ≡ (body ++ (10 ∷ [])) ∷ linesOf rest)
-        → cond t ((b ∷ []) ∷ linesOf (body ++ (10 ∷ rest))) (beforeFirst b (linesOf (body ++ (10 ∷ rest)))) ≡ (b ∷ (body ++ (10 ∷ []))) ∷ linesOf rest
-    by true h more = absurd (never-true h)
-    by false h more = ap (beforeFirst b) (more h)
-
-feedless-both : (xs ys : List ℕ) → feedless xs ≡ true → feedless ys ≡ true → feedless (xs ++ ys) ≡ true
-feedless-both [] ys h k = k
-feedless-both (x ∷ xs) ys h k = by (eqb x 10) h (feedless-both xs ys)
-  where
-    by : (t : Bool) → cond t false (feedless xs) ≡ true → (feedless xs ≡ true → feedless ys ≡ true → feedless (xs ++ ys) ≡ true) → cond t false (feedless (xs ++ ys)) ≡ true
-    by true h more = h
-    by false h more = more h k
-
-feedless-digits : (ds : List ℕ) → ((d : ℕ) → List·Memᴰ d ds → code "0" ≤ d) → feedless ds ≡ true
-feedless-digits [] h = refl
-feedless-digits (d ∷ ds) h =
-    rw (ne-eqb d 10 (λ e. omega (arith, h d (List·Memᴰ·head refl)))) (feedless-digits ds (λ c m. h c (List·Memᴰ·tail m)))
-
-feedless-decimal : (n : ℕ) → feedless (decimal n) ≡ true
-feedless-decimal n = feedless-digits (decimal n) (λ d m. each-digit n d m .0)
+feed-ends (b ∷ body) rest h =
+    let w = both (not (eqb b lineFeed)) (feedless body) h in
+    rw (not-true (eqb b lineFeed) (w .0)) (ap (beforeFirst b) (feed-ends body rest (w .1)))
 
 feedless-build : (build : ReportBuild) → feedless (buildText build) ≡ true
 feedless-build Unknown = refl
@@ -79,7 +51,7 @@ line-first key value rest h k =
     (append-assoc (ascii key) (61 ∷ (value ++ (10 ∷ []))) rest
     ∙ ap (λ (l : List ℕ). ascii key ++ (61 ∷ l)) (append-assoc value (10 ∷ []) rest)
     ∙ sym (append-assoc (ascii key) (61 ∷ value) (10 ∷ rest)))
-    ∙ feed-ends (ascii key ++ (61 ∷ value)) rest (feedless-both (ascii key) (61 ∷ value) h k)
+    ∙ feed-ends (ascii key ++ (61 ∷ value)) rest (feedless-joined (ascii key) (61 ∷ value) h k)
     ∙ ap (λ (l : List ℕ). l ∷ linesOf rest) (append-assoc (ascii key) (61 ∷ value) (10 ∷ []))
 
 -- taken apart at its line feeds the report is its five lines
@@ -98,14 +70,18 @@ lines-of-report build verdict =
 
 -- ---- what the lines say
 
+accepted-if : (verdict : Verdict) → isAccepted verdict ≡ true → verdict ≡ Accepted
+accepted-if Accepted h = refl
+accepted-if (Refused rule place slot) h = absurd (false≢true h)
+
 -- released is what document 01 says
 released-exactly-if : (build : ReportBuild) (verdict : Verdict) → released build verdict ≡ true ↔ (verdict ≡ Accepted) × (build ≡ Production)
 released-exactly-if build verdict = (there build, λ h. rw (h .0, h .1))
   where
     there : (build : ReportBuild) → released build verdict ≡ true → (verdict ≡ Accepted) × (build ≡ Production)
-    there Unknown h = absurd (never-true h)
-    there Production h = (accepted-zero verdict .1 (eqb-true (verdictNumber verdict) 0 h), refl)
-    there Debug h = absurd (never-true h)
+    there Unknown h = absurd (false≢true h)
+    there Production h = (accepted-if verdict h, refl)
+    there Debug h = absurd (false≢true h)
 
 -- two lines that differ in the byte at i
 differ : (i : ℕ) (xs ys : List ℕ) → (getD xs i 0 ≡ getD ys i 0 → ⊥) → xs ≡ ys → ⊥
@@ -151,8 +127,8 @@ unknown-build build verdict h =
     ∙ ap (λ (t : Bool). line "build" (buildText (cond t Unknown build))) (eq-eqb (verdictNumber verdict) 1 h)
 
 -- the table's rule 1 is the one with that number
-pub unknown-build-on-card-line : (build : ReportBuild) (place : Place) (slot : Slots) → getD (linesOf (reportBytes build (Refused CardLine place slot))) 0 [] ≡ ascii "build=unknown\n"
-unknown-build-on-card-line build place slot = unknown-build build (Refused CardLine place slot) refl
+pub unknown-build-on-card-line : (build : ReportBuild) (place : Place) (slot : Slots) → getD (linesOf (reportBytes build (Refused 1 place slot))) 0 [] ≡ ascii "build=unknown\n"
+unknown-build-on-card-line build place slot = unknown-build build (Refused 1 place slot) refl
 
 -- ---- how long a report is
 

@@ -1,10 +1,9 @@
 -- Bytes in a lent buffer: what is answered, and every byte of the buffer afterwards.
-use Prim.Native.Nat.{ℕ, _+_}
-use mathlib.Core.Path.{_≡_}
+use Prim.Native.Nat.{ℕ}
 use mathlib.Core.Bool.{Bool, cond}
 use mathlib.Core.List.{List, _++_}
 use lib.Dec.{leb}
-use lib.ListN.{length, take, drop}
+use lib.ListN.{length, drop}
 use Rattle.report.specs.declared.Written.{Written}
 use Rattle.report.specs.declared.Written.the-variants.{Length, TooSmall}
 
@@ -19,11 +18,3 @@ writtenOf bytes buffer = cond (room bytes buffer) (Length (length bytes)) TooSma
 -- the buffer afterwards: the bytes and behind them what stood there, or where they have no room the buffer as it was
 unfoldable pub bufferAfter : List ℕ → List ℕ → List ℕ
 bufferAfter bytes buffer = cond (room bytes buffer) (bytes ++ drop (length bytes) buffer) buffer
-
--- ---- a step of the way there
-
--- bytes were put into a buffer at a place, behind what stood before it; what stands behind their end is as it was
-pub record Appended (at : ℕ) (bytes earlier later : List ℕ) (end : ℕ) : Type 0 where
-  pub ends : end ≡ at + length bytes
-  pub written : take end later ≡ take at earlier ++ bytes
-  pub kept : drop end later ≡ drop end earlier

@@ -1,4 +1,4 @@
 -- The root of what the contracts cite.
-pub mod Text
 pub mod Report
 pub mod Buffer
+pub mod Code

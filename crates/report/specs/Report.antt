@@ -1,16 +1,15 @@
 -- The report: document 01, "What the judge reads". Five lines, each ended by one line feed.
 use Prim.Native.Nat.{ℕ}
-use Prim.Native.Char.{code}
 use Prim.Native.String.{String}
 use mathlib.Core.Bool.{Bool, true, false, cond}
 use mathlib.Core.List.{List, [], _∷_, _++_}
 use lib.Dec.{eqb}
+use Rattle.ascii.specs.Ascii.{ascii, lineFeed}
+use Rattle.ascii.specs.Decimal.{decimal}
 use Rattle.checks.specs.declared.Verdict.{Verdict}
-use Rattle.checks.specs.Verdict.{verdictNumber, verdictPlace, verdictSlot}
+use Rattle.checks.specs.Verdict.{isAccepted, verdictNumber, verdictPlace, verdictSlot}
 use Rattle.report.specs.declared.ReportBuild.{ReportBuild}
 use Rattle.report.specs.declared.ReportBuild.the-variants.{Unknown, Production, Debug}
-use Rattle.ascii.specs.Decimal.{decimal}
-use Rattle.report.specs.Text.{ascii}
 
 -- a line key=value
 abbrev pub line : String → List ℕ → List ℕ
@@ -25,10 +24,10 @@ buildText Unknown = ascii "unknown"
 buildText Production = ascii "production"
 buildText Debug = ascii "debug"
 
--- release is yes exactly if verdict is 0 and build is production, else no
+-- release is yes exactly if the verdict is 0, accepted, and build is production, else no
 abbrev pub released : ReportBuild → Verdict → Bool
 released Unknown verdict = false
-released Production verdict = eqb (verdictNumber verdict) 0
+released Production verdict = isAccepted verdict
 released Debug verdict = false
 
 abbrev pub yesOrNo : Bool → List ℕ
@@ -54,7 +53,7 @@ joined (l ∷ ls) = l ++ joined ls
 unfoldable pub reportBytes : ReportBuild → Verdict → List ℕ
 reportBytes build verdict = joined (reportLines build verdict)
 
--- ---- what the laws of proofs/OfReport.antt say of the bytes
+-- ---- the bytes taken apart again: what is said of a line of the report is said of these
 
 -- a byte before the first of some lines
 abbrev pub beforeFirst : ℕ → List (List ℕ) → List (List ℕ)
@@ -64,4 +63,4 @@ beforeFirst b (l ∷ ls) = (b ∷ l) ∷ ls
 -- bytes taken apart into lines, each with the line feed that ends it
 unfoldable pub linesOf : List ℕ → List (List ℕ)
 linesOf [] = []
-linesOf (b ∷ bs) = cond (eqb b (code "\n")) ((b ∷ []) ∷ linesOf bs) (beforeFirst b (linesOf bs))
+linesOf (b ∷ bs) = cond (eqb b lineFeed) ((b ∷ []) ∷ linesOf bs) (beforeFirst b (linesOf bs))

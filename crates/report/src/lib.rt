@@ -8,7 +8,8 @@ ghost use mathlib.Core.Path.{_≡_};
 ghost use Prim.Native.Nat.{_+_, _≤_};
 ghost use lib.ListN.{length};
 ghost use Rattle.report.specs.Report.{line, shownBuild, buildText, released, yesOrNo, reportBytes};
-ghost use Rattle.report.specs.Buffer.{writtenOf, bufferAfter, Appended};
+ghost use Rattle.report.specs.Buffer.{writtenOf, bufferAfter};
+ghost use Rattle.report.specs.Code.{Appended};
 use checks::Verdict;
 
 // What is known of the card's build line.
@@ -66,7 +67,7 @@ fn is_released(build: ReportBuild, verdict: Verdict) -> bool
 {
     match build {
         ReportBuild::Unknown => false,
-        ReportBuild::Production => checks::verdict_number(verdict) == 0,
+        ReportBuild::Production => checks::is_accepted(verdict),
         ReportBuild::Debug => false,
     }
 }

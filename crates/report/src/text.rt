@@ -3,10 +3,9 @@ ghost use mathlib.Core.Path.{_≡_};
 ghost use mathlib.Core.List.{_++_};
 ghost use Prim.Native.Nat.{_+_, _≤_, _<_};
 ghost use lib.ListN.{length, drop};
-ghost use Rattle.ascii.specs.Decimal.{digitOf};
-ghost use Rattle.report.specs.Text.{ascii};
-ghost use Rattle.ascii.specs.Decimal.{decimal as Text·decimal};
-ghost use Rattle.report.specs.Buffer.{Appended};
+ghost use Rattle.ascii.specs.Ascii.{ascii};
+ghost use Rattle.ascii.specs.Decimal.{digitOf, decimal as Text·decimal};
+ghost use Rattle.report.specs.Code.{Appended};
 
 // Puts `bytes` into `out` from `at` on, and answers where they end.
 pub(crate) fn put(out: &mut [u8], at: usize, bytes: &[u8]) -> usize

@@ -8,14 +8,14 @@ use native.Mathlib.Omega.{arith}
 use lib.Dec.{eqb, ltb, leb}
 use lib.ListN.{getD, drop}
 use borrow.Author.Tests.{ltb-true, ltb-false, le-leb}
-use Rattle.bits.specs.Fields.{fieldOf}
-use Rattle.bits.proofs.OfRows.{neither}
+use Rattle.formats.specs.Fields.{_of_, «SRC0_SEL», «SRC0_REL», «SRC0_CHAN», «SRC1_SEL», «SRC1_REL», «SRC1_CHAN», «SRC2_SEL», «SRC2_REL», «SRC2_CHAN», «INDEX_MODE», «PRED_SEL», «BANK_SWIZZLE», «DST_GPR», «DST_REL»}
+use Rattle.laws.proofs.OfTests.{neither}
 use Rattle.grants.specs.declared.Limits.{Limits}
 use Rattle.grants.specs.Grants.{Name, aluRegister, set0, set1, constant, locked, granted, allGranted, sourceNames}
 use Rattle.grants.proofs.OfGrants.{locked-most, all-joined}
 use Rattle.instructions.specs.declared.Source.{Source}
 use Rattle.instructions.specs.Instruction.{isOp3, isWritten, isRelative, badSource, badField, namesOf, destinationNames, named, literals, sourceLiterals, source0Of, source1Of, source2Of}
-use Rattle.screens.specs.Gaps.{times, byRow, startsOf, widthsOf, isAmong, inGap, namesDestination, asksLiteral, brokenBy}
+use Rattle.screens.specs.Code.{withRel, times, byRow, startsOf, widthsOf, isAmong, inGap, namesDestination, asksLiteral, brokenBy}
 
 -- ---- what the code tests
 
@@ -27,11 +27,11 @@ wrapped x f r h k l e = omega (arith, h, k, l, e)
 pub no-literal : (n lo hi : ℕ) → asksLiteral lo hi ≡ false → n ≡ max n (literals lo hi)
 unfolding asksLiteral literals sourceLiterals
 no-literal n lo hi =
-    by (eqb (fieldOf lo 0 9) 253) (eqb (fieldOf lo 13 9) 253) (isOp3 hi) (eqb (fieldOf hi 0 9) 253)
+    by (eqb («SRC0_SEL» of lo) 253) (eqb («SRC1_SEL» of lo) 253) (isOp3 hi) (eqb («SRC2_SEL» of hi) 253)
   where
     by :
         (a b d e : Bool) → (a || (b || (d && e))) ≡ false
-        → n ≡ max n (max (max (cond a (fieldOf lo 10 2 / 2 + 1) 0) (cond b (fieldOf lo 23 2 / 2 + 1) 0)) (cond d (cond e (fieldOf hi 10 2 / 2 + 1) 0) 0))
+        → n ≡ max n (max (max (cond a («SRC0_CHAN» of lo / 2 + 1) 0) (cond b («SRC1_CHAN» of lo / 2 + 1) 0)) (cond d (cond e («SRC2_CHAN» of hi / 2 + 1) 0) 0))
     by false false false e h = omega arith
     by false false true false h = omega arith
     by false false true true h = absurd (false≢true (sym h))
@@ -43,16 +43,16 @@ no-literal n lo hi =
 -- what the code has asked so far
 module _ (starts widths : List ℕ) (lo hi : ℕ) where
   abbrev fieldTest : Bool
-  fieldTest = eqb (fieldOf lo 29 2) 1 || (ltb 4 (fieldOf lo 26 3) || ltb 5 (fieldOf hi 18 3))
+  fieldTest = eqb («PRED_SEL» of lo) 1 || (ltb 4 («INDEX_MODE» of lo) || ltb 5 («BANK_SWIZZLE» of hi))
 
   abbrev sourceTest : Bool
-  sourceTest = inGap starts widths (fieldOf lo 0 10) || inGap starts widths (fieldOf lo 13 10)
+  sourceTest = inGap starts widths (withRel «SRC0_SEL» «SRC0_REL» lo) || inGap starts widths (withRel «SRC1_SEL» «SRC1_REL» lo)
 
   abbrev thirdTest : Bool
-  thirdTest = isOp3 hi && inGap starts widths (fieldOf hi 0 10)
+  thirdTest = isOp3 hi && inGap starts widths (withRel «SRC2_SEL» «SRC2_REL» hi)
 
   abbrev destinationTest : Bool
-  destinationTest = inGap starts widths (fieldOf hi 21 7)
+  destinationTest = inGap starts widths («DST_GPR» of hi)
 
   pub by-field : fieldTest ≡ true → true ≡ brokenBy starts widths lo hi
   unfolding brokenBy
@@ -258,11 +258,14 @@ module _ (l : Limits) (s : Source) (h : inGap (startsOf l) (widthsOf l) (s .sel 
 
 -- nine bits and the tenth above them
 module _ (n : ℕ) where
-  source0-bits : fieldOf n 0 10 ≡ fieldOf n 0 9 + 512 * fieldOf n 9 1
+  source0-bits : withRel «SRC0_SEL» «SRC0_REL» n ≡ «SRC0_SEL» of n + 512 * («SRC0_REL» of n)
   source0-bits = omega arith
 
-  source1-bits : fieldOf n 13 10 ≡ fieldOf n 13 9 + 512 * fieldOf n 22 1
+  source1-bits : withRel «SRC1_SEL» «SRC1_REL» n ≡ «SRC1_SEL» of n + 512 * («SRC1_REL» of n)
   source1-bits = omega arith
+
+  source2-bits : withRel «SRC2_SEL» «SRC2_REL» n ≡ «SRC2_SEL» of n + 512 * («SRC2_REL» of n)
+  source2-bits = omega arith
 
 tests-false :
     (a b d e : Bool) → cond a true (cond b true (cond d true e)) ≡ false
@@ -282,8 +285,8 @@ module _ (l : Limits) (lo hi : ℕ) (h : brokenBy (startsOf l) (widthsOf l) lo h
       h
 
   first-two :
-      (inGap (startsOf l) (widthsOf l) (fieldOf lo 0 10) ≡ false) × (inGap (startsOf l) (widthsOf l) (fieldOf lo 13 10) ≡ false)
-  first-two = neither (inGap (startsOf l) (widthsOf l) (fieldOf lo 0 10)) _ (asked .1 .0)
+      (inGap (startsOf l) (widthsOf l) (withRel «SRC0_SEL» «SRC0_REL» lo) ≡ false) × (inGap (startsOf l) (widthsOf l) (withRel «SRC1_SEL» «SRC1_REL» lo) ≡ false)
+  first-two = neither (inGap (startsOf l) (widthsOf l) (withRel «SRC0_SEL» «SRC0_REL» lo)) _ (asked .1 .0)
 
   first : (badSource (source0Of lo) ≡ false) × (allGranted l (namesOf (source0Of lo)) ≡ true)
   first =
@@ -300,30 +303,30 @@ module _ (l : Limits) (lo hi : ℕ) (h : brokenBy (startsOf l) (widthsOf l) lo h
   third = by (isOp3 hi) (asked .1 .1 .0)
     where
       by :
-          (b : Bool) → (b && inGap (startsOf l) (widthsOf l) (fieldOf hi 0 10)) ≡ false
+          (b : Bool) → (b && inGap (startsOf l) (widthsOf l) (withRel «SRC2_SEL» «SRC2_REL» hi)) ≡ false
           → ((b && badSource (source2Of hi)) ≡ false) × (allGranted l (cond b (namesOf (source2Of hi)) []) ≡ true)
       by false e = (refl, refl)
       by true e =
-          source-clear l (source2Of hi) (ap (inGap (startsOf l) (widthsOf l)) (sym (source0-bits hi)) ∙ e) (omega arith)
+          source-clear l (source2Of hi) (ap (inGap (startsOf l) (widthsOf l)) (sym (source2-bits hi)) ∙ e) (omega arith)
           (omega arith)
 
   destination : allGranted l (destinationNames hi) ≡ true
   unfolding destinationNames namesDestination
-  destination = by (isWritten hi && eqb (fieldOf hi 28 1) 0) (inGap (startsOf l) (widthsOf l) (fieldOf hi 21 7)) refl (asked .1 .1 .1)
+  destination = by (isWritten hi && eqb («DST_REL» of hi) 0) (inGap (startsOf l) (widthsOf l) («DST_GPR» of hi)) refl (asked .1 .1 .1)
     where
       by :
-          (b e : Bool) → inGap (startsOf l) (widthsOf l) (fieldOf hi 21 7) ≡ e → (e && b) ≡ false
-          → allGranted l (cond b (aluRegister (fieldOf hi 21 7) ∷ []) []) ≡ true
+          (b e : Bool) → inGap (startsOf l) (widthsOf l) («DST_GPR» of hi) ≡ e → (e && b) ≡ false
+          → allGranted l (cond b (aluRegister («DST_GPR» of hi) ∷ []) []) ≡ true
       by false e p q = refl
-      by true false p q = ap (λ (t : Bool). t && true) (register-clear l (fieldOf hi 21 7) p (omega arith))
+      by true false p q = ap (λ (t : Bool). t && true) (register-clear l («DST_GPR» of hi) p (omega arith))
       by true true p q = absurd (false≢true (sym q))
 
   -- an instruction that the gaps let through breaks neither rule 12
   pub unbroken-field : badField lo hi ≡ false
   unfolding badField
   unbroken-field =
-      let f = neither (eqb (fieldOf lo 29 2) 1) _ (asked .0) in
-      let g = neither (ltb 4 (fieldOf lo 26 3)) _ (f .1) in
+      let f = neither (eqb («PRED_SEL» of lo) 1) _ (asked .0) in
+      let g = neither (ltb 4 («INDEX_MODE» of lo)) _ (f .1) in
       rw (f .0, g .0, g .1, first .0, second .0) (third .0)
 
   -- nor rule 15

@@ -1,2 +1,2 @@
--- The root of what the contracts cite.
-pub mod Gaps
+-- The root of what the contracts cite. All of it is for the code alone.
+pub mod Code

@@ -3,7 +3,9 @@
 // The sources that these rules refuse are gaps among the 1,024 values that SEL and REL have together, and each row of 32 values has one at
 // most: so a source is looked up in a table of gaps, which is made once for a clause. Which rule is broken, and where, is left to
 // `groups`. Branches go by what an accepted pack never has, so that each of them is foreseen.
-use bits::field;
+use bits::Bits;
+use bits::read;
+use formats::fields;
 use grants::Limits;
 use instructions::is_op3;
 use instructions::larger;
@@ -11,9 +13,16 @@ use instructions::literals_of;
 ghost use mathlib.Core.Path.{_≡_};
 ghost use mathlib.Core.Bool.{_&&_};
 ghost use Prim.Native.Nat.{_-_, max, min};
-ghost use Rattle.bits.specs.Fields.{fieldOf};
+ghost use Rattle.formats.specs.Fields.{«SRC2_SEL», «SRC2_REL»};
 ghost use Rattle.instructions.specs.Instruction as instruction;
-ghost use Rattle.screens.specs.Gaps.{byRow, startsOf, widthsOf, isAmong, inGap, namesDestination, asksLiteral, brokenBy};
+ghost use Rattle.screens.specs.Code.{withRel, byRow, startsOf, widthsOf, isAmong, inGap, namesDestination, asksLiteral, brokenBy};
+
+// SEL and, above it, REL, as one number.
+const SOURCE0: Bits = Bits(fields::SRC0_REL.0, fields::SRC0_SEL.1);
+
+const SOURCE1: Bits = Bits(fields::SRC1_REL.0, fields::SRC1_SEL.1);
+
+const SOURCE2: Bits = Bits(fields::SRC2_REL.0, fields::SRC2_SEL.1);
 
 // A number for each row: registers, the two sets of locked constants, what is reserved among the inline constants, the constant
 // file; then, with REL set, the inline constants.
@@ -108,10 +117,10 @@ fn in_gap(starts: &[u32; 32], widths: &[u32; 32], x: u32) -> bool
 
 // Source 2 of an OP3.
 fn third_in_gap(starts: &[u32; 32], widths: &[u32; 32], high: u32) -> bool
-    ensures { λ r. ⌜ r ≡ (instruction.isOp3 high && inGap (now (starts .entry)) (now (widths .entry)) (fieldOf high 0 10)) ⌝ }
+    ensures { λ r. ⌜ r ≡ (instruction.isOp3 high && inGap (now (starts .entry)) (now (widths .entry)) (withRel «SRC2_SEL» «SRC2_REL» high)) ⌝ }
 {
     if is_op3(high) {
-        return in_gap(starts, widths, field(high, 0, 10));
+        return in_gap(starts, widths, read(high, SOURCE2));
     }
     false
 }
@@ -119,28 +128,28 @@ fn third_in_gap(starts: &[u32; 32], widths: &[u32; 32], high: u32) -> bool
 fn names_destination(high: u32) -> bool
     ensures { λ r. ⌜ r ≡ namesDestination high ⌝ }
 {
-    (is_op3(high) | (field(high, 4, 1) == 1)) & (field(high, 28, 1) == 0)
+    (is_op3(high) | (read(high, fields::WRITE_MASK) == 1)) & (read(high, fields::DST_REL) == 0)
 }
 
 // Whether the instruction breaks rule 12 or 15, by the gaps.
 pub fn breaks_alone(starts: &[u32; 32], widths: &[u32; 32], low: u32, high: u32) -> bool
     ensures { λ r. ⌜ r ≡ brokenBy (now (starts .entry)) (now (widths .entry)) low high ⌝ }
 {
-    let predicate = field(low, 29, 2) == 1;
-    let index = 4 < field(low, 26, 3);
-    let swizzle = 5 < field(high, 18, 3);
+    let predicate = read(low, fields::PRED_SEL) == 1;
+    let index = 4 < read(low, fields::INDEX_MODE);
+    let swizzle = 5 < read(high, fields::BANK_SWIZZLE);
     if predicate | (index | swizzle) {
         return true;
     }
-    let first = in_gap(starts, widths, field(low, 0, 10));
-    let second = in_gap(starts, widths, field(low, 13, 10));
+    let first = in_gap(starts, widths, read(low, SOURCE0));
+    let second = in_gap(starts, widths, read(low, SOURCE1));
     if first | second {
         return true;
     }
     if third_in_gap(starts, widths, high) {
         return true;
     }
-    if in_gap(starts, widths, field(high, 21, 7)) {
+    if in_gap(starts, widths, read(high, fields::DST_GPR)) {
         return names_destination(high);
     }
     false
@@ -149,9 +158,9 @@ pub fn breaks_alone(starts: &[u32; 32], widths: &[u32; 32], low: u32, high: u32)
 fn asks_literal(low: u32, high: u32) -> bool
     ensures { λ r. ⌜ r ≡ asksLiteral low high ⌝ }
 {
-    let first = field(low, 0, 9) == 253;
-    let second = field(low, 13, 9) == 253;
-    let third = is_op3(high) & (field(high, 0, 9) == 253);
+    let first = read(low, fields::SRC0_SEL) == 253;
+    let second = read(low, fields::SRC1_SEL) == 253;
+    let third = is_op3(high) & (read(high, fields::SRC2_SEL) == 253);
     first | (second | third)
 }
 

@@ -1,33 +1,29 @@
 -- The cap of 64 bits is out of the way: it changes no number that 64 bits hold, and no comparison with a limit below it. So no
 -- ADDR of 32 bits can seem to lie inside a buffer by wrapping round. Assumes nothing.
 use mathlib.Core.Path.{_≡_, refl, ap}
-use mathlib.Core.Bool.{Bool, true, false}
-use Prim.Native.Nat.{ℕ, _+_, _*_, _-_, _^_, _<_}
+use mathlib.Core.Bool.{false}
+use Prim.Native.Nat.{ℕ, _+_, _*_, _/_, _-_, _^_, _<_}
 use native.Mathlib.Omega.{arith}
 use lib.Dec.{leb}
 use borrow.Author.Tests.{leb-true, leb-false, le-leb, lt-leb}
+use Rattle.laws.proofs.OfTests.{same-test}
 use Rattle.units.specs.declared.Quadwords.{Quadwords}
-use Rattle.units.specs.Units.{quadwords, slots, words, capped, quadwordsIn64, wordsIn64, quadwordBehind, lowWord, highWord, counted, slotsLength, fetchesLength, rangeEnd, isAtMost}
+use Rattle.units.specs.declared.Slots.{Slots}
+use Rattle.units.specs.declared.Words.{Words}
+use Rattle.units.specs.Units.{quadwords, slots, words, quadwordBehind, lowWord, highWord, counted, slotsLength, fetchesLength, wholeQuadwords, rangeEnd, isAtMost, liesIn}
+use Rattle.units.specs.Code.{capped, quadwordsIn64, wordsIn64}
 
 pub capped-exact : (n : ℕ) → n < 2 ^ 64 → capped n ≡ n
 capped-exact n h = omega arith
 
 -- a test against a limit gives the same before and after the cap
 pub capped-leb : (n limit : ℕ) → limit < 2 ^ 64 - 1 → leb (capped n) limit ≡ leb n limit
-capped-leb n limit h = by (leb n limit) refl
-  where
-    by : (t : Bool) → leb n limit ≡ t → leb (capped n) limit ≡ t
-    by true e = le-leb (capped n) limit (omega (arith, leb-true n limit e))
-    by false e = lt-leb (capped n) limit (omega (arith, leb-false n limit e))
+capped-leb n limit h =
+    same-test (leb (capped n) limit) (leb n limit)
+    (λ e. le-leb (capped n) limit (omega (arith, leb-true n limit e)))
+    (λ e. lt-leb (capped n) limit (omega (arith, leb-false n limit e)))
 
--- the two words of a quadword are the true ones for any that a buffer can have
-pub low-word-exact : (q : Quadwords) → q .0 < 2 ^ 63 → wordsIn64 (lowWord q) ≡ lowWord q
-low-word-exact q h = ap words (capped-exact (2 * q .0) (omega arith))
-
-pub high-word-exact : (q : Quadwords) → q .0 < 2 ^ 63 → wordsIn64 (highWord q) ≡ highWord q
-high-word-exact q h = ap words (capped-exact (2 * q .0 + 1) (omega arith))
-
--- and the next quadword is the true one
+-- the next quadword is the true one for any that a buffer can have
 pub behind-exact : (p r : Quadwords) → r ≡ quadwordsIn64 (quadwordBehind p) → p .0 < 2 ^ 64 - 1 → r .0 ≡ p .0 + 1
 behind-exact p r f h =
     let b : r .0 ≡ capped (p .0 + 1) = ap (λ (x : Quadwords). x .0) f in
@@ -53,3 +49,13 @@ third-pair = (refl, refl)
 -- past 64 bits: the largest number, and not a small one
 past-the-cap : wordsIn64 (lowWord (quadwords (2 ^ 64 - 1))) ≡ words (2 ^ 64 - 1)
 past-the-cap = refl
+
+-- a clause of fetches that lies in a buffer: the cap on its length changes nothing
+pub fetches-inside :
+    (buffer : Words) (s : Quadwords) (f : Slots) → buffer .0 < 2 ^ 64
+    → isAtMost (rangeEnd s (quadwordsIn64 (fetchesLength f))) (wholeQuadwords buffer) ≡ liesIn buffer s (fetchesLength f)
+unfolding liesIn
+fetches-inside buffer s f h =
+    same-test (leb (s .0 + capped (2 * f .0)) (buffer .0 / 2)) (leb (s .0 + 2 * f .0) (buffer .0 / 2))
+    (λ e. le-leb (s .0 + capped (2 * f .0)) (buffer .0 / 2) (omega (arith, leb-true (s .0 + 2 * f .0) (buffer .0 / 2) e)))
+    (λ e. lt-leb (s .0 + capped (2 * f .0)) (buffer .0 / 2) (omega (arith, leb-false (s .0 + 2 * f .0) (buffer .0 / 2) e)))

@@ -1,6 +1,6 @@
 -- Counts of quadwords, slots and words, and what each conversion between them gives: document 01, "What the judge reads", and the
 -- lengths of rule 6. Nothing here adds one unit to another except where the paper does.
-use Prim.Native.Nat.{ℕ, _+_, _*_, _/_, _-_, _^_, min}
+use Prim.Native.Nat.{ℕ, _+_, _*_, _/_, _-_}
 use mathlib.Core.Bool.{Bool}
 use mathlib.Core.List.{List}
 use lib.Dec.{ltb, leb}
@@ -95,16 +95,6 @@ isAtMost a b = leb (a .0) (b .0)
 abbrev pub isSlotBelow : Slots → Slots → Bool
 isSlotBelow a b = ltb (a .0) (b .0)
 
--- ---- what the code answers: the count, or the largest number of 64 bits where the count is larger still
-
-abbrev pub capped : ℕ → ℕ
-capped n = min n (2 ^ 64 - 1)
-
-abbrev pub quadwordsIn64 : Quadwords → Quadwords
-quadwordsIn64 n = quadwords (capped (n .0))
-
-abbrev pub slotsIn64 : Slots → Slots
-slotsIn64 n = slots (capped (n .0))
-
-abbrev pub wordsIn64 : Words → Words
-wordsIn64 n = words (capped (n .0))
+-- so many quadwords from start on lie in a buffer of so many words
+unfoldable pub liesIn : Words → Quadwords → Quadwords → Bool
+liesIn buffer start size = isAtMost (rangeEnd start size) (wholeQuadwords buffer)

@@ -6,9 +6,9 @@
 // A count that 64 bits do not hold is answered as the largest number that they do (`quadwordsIn64`, ..): it lies behind every buffer,
 // as the true count would. No ADDR of 32 bits comes near that (proofs/OfUnits.antt).
 ghost use mathlib.Core.Path.{_≡_};
-ghost use Prim.Native.Nat.{_+_};
+ghost use Prim.Native.Nat.{_+_, min};
 ghost use Rattle.units.specs.Units as count;
-ghost use Rattle.units.specs.Units.{capped, quadwordsIn64, slotsIn64, wordsIn64};
+ghost use Rattle.units.specs.Code.{capped, quadwordsIn64, slotsIn64, wordsIn64};
 
 // A number of quadwords (pairs of words), or the number of one, as ADDR gives it.
 pub struct Quadwords(pub usize);
@@ -122,6 +122,19 @@ pub fn ends_by(start: Quadwords, size: Quadwords, limit: Quadwords) -> bool
     start.0 + size.0 <= limit.0
 }
 
+// Whether so many slots, or fetches, from `start` on lie in a buffer of so many words.
+pub fn slots_lie_in(buffer: Words, start: Quadwords, n: Slots) -> bool
+    ensures { λ r. ⌜ r ≡ count.liesIn buffer start (count.slotsLength n) ⌝ }
+{
+    ends_by(start, slots_length(n), whole_quadwords(buffer))
+}
+
+pub fn fetches_lie_in(buffer: Words, start: Quadwords, n: Slots) -> bool
+    ensures { λ r. ⌜ r ≡ count.liesIn buffer start (count.fetchesLength n) ⌝ }
+{
+    ends_by(start, fetches_length(n), whole_quadwords(buffer))
+}
+
 // The next quadword.
 pub fn quadword_behind(q: Quadwords) -> Quadwords
     ensures { λ r. ⌜ r ≡ quadwordsIn64 (count.quadwordBehind q) ⌝ }
@@ -156,4 +169,11 @@ pub fn is_slot_below(a: Slots, b: Slots) -> bool
     ensures { λ r. ⌜ r ≡ count.isSlotBelow a b ⌝ }
 {
     a.0 < b.0
+}
+
+// The smaller of two numbers.
+pub fn smaller(a: usize, b: usize) -> usize
+    ensures { λ r. ⌜ r ≡ min a b ⌝ }
+{
+    if a < b { a } else { b }
 }

@@ -7,7 +7,9 @@ use native.Mathlib.Nat.{mod-lt, mod-eq-of-lt, lt-of-le-of-lt, div-mul-le-self, d
 use native.Mathlib.Omega.{arith}
 use lib.Pow.{pow-pos, pow-add, high, low, mod-pow-add, shl-lt, shl-exact, shr-le}
 use lib.Bits.{bitOr, or-shifted}
-use Rattle.bits.specs.Fields.{withField, fieldOf, placeOf}
+use Rattle.bits.specs.Fields.{fieldOf}
+use Rattle.bits.specs.Tables.{placeOf}
+use Rattle.bits.specs.Code.{withField}
 use Rattle.bits.proofs.OfField.{spliced-at, in-word, no-top, behind}
 use Rattle.bits.proofs.with_field.Statement.{statement}
 use Rattle.bits.proofs.with_field.Tie as tie

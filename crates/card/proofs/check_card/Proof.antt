@@ -5,7 +5,7 @@ use mathlib.Core.Path.{_≡_, sym, _∙_, ap, ap₂}
 use mathlib.Core.Bool.{_&&_}
 use Prim.Native.Nat.{_+_}
 use lib.Dec.{leb}
-use Rattle.card.specs.Card.{firstNot, testOf}
+use Rattle.card.specs.Made.{firstNot, testOf}
 use Rattle.card.specs.declared.Card.{Card}
 use Rattle.card.proofs.OfRows.{tests-4, tests-5, tests-6, tests-7, card-tests, holds-3, holds-4, holds-5, holds-6, holds-7, fails-3, fails-4, fails-5, fails-6, fails-7}
 use Rattle.card.proofs.check_card.Statement.{statement}

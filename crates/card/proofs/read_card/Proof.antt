@@ -10,7 +10,7 @@ use Rattle.card.specs.declared.Build.{Build}
 use Rattle.card.specs.declared.Card.{Card}
 use Rattle.card.specs.declared.CardRead.the-variants.{Whole}
 use Rattle.card.proofs.OfLines.{lines-none}
-use Rattle.card.proofs.OfRows.{kind-is, kind-wrong, build-is, build-wrong, figure-is, figure-wrong, goes-on, stops, past-1, past-2, past-3, past-4, past-5, past-6, past-7, card-lines}
+use Rattle.card.proofs.OfRows.{kinds-told, builds-told, figures-told, answer-is, answer-wrong, goes-on, stops, past-1, past-2, past-3, past-4, past-5, past-6, past-7, card-lines}
 use Rattle.card.proofs.read_card.Statement.{statement}
 use Rattle.card.proofs.read_card.Tie as tie
 
@@ -25,7 +25,7 @@ says-1 : (c : tie.After-known-told)
     → (lineSays (bytes-1 c) 1 "kind" (wordIn kinds) ≡ some (c .before .kind .given .0 .0))
     × (c .before .kind .given .0 .1 .0 ≡ linesLength 1 (bytes-1 c))
 says-1 c =
-    kind-is (lineSays (bytes-1 c) 1 "kind" (wordIn kinds))
+    answer-is kinds-told (lineSays (bytes-1 c) 1 "kind" (wordIn kinds))
     (c .before .before .before .kind-line .ensures) (c .before .kind .given .1)
 
 at-1 : (c : tie.After-known-told) → cardOf (bytes-1 c) ≡ past-1 (bytes-1 c) (card-1 c)
@@ -44,7 +44,7 @@ says-2 : (c : tie.After-known-told2)
     → (lineSays (bytes-2 c) 2 "build" (wordIn builds) ≡ some (c .before .build .given .0 .0))
     × (c .before .build .given .0 .1 .0 ≡ linesLength 2 (bytes-2 c))
 says-2 c =
-    build-is (lineSays (bytes-2 c) 2 "build" (wordIn builds))
+    answer-is builds-told (lineSays (bytes-2 c) 2 "build" (wordIn builds))
     (c .before .before .before .build-line .ensures) (c .before .build .given .1)
 
 at-2 : (c : tie.After-known-told2) → cardOf (bytes-2 c) ≡ past-2 (bytes-2 c) (card-2 c)
@@ -63,7 +63,7 @@ says-3 : (c : tie.After-known-told3)
     → (lineSays (bytes-3 c) 3 "gprs" (numberIn gprsAllowed) ≡ some (c .before .gprs .given .0 .0))
     × (c .before .gprs .given .0 .1 .0 ≡ linesLength 3 (bytes-3 c))
 says-3 c =
-    figure-is (lineSays (bytes-3 c) 3 "gprs" (numberIn gprsAllowed))
+    answer-is figures-told (lineSays (bytes-3 c) 3 "gprs" (numberIn gprsAllowed))
     (c .before .before .before .gprs-line .ensures) (c .before .gprs .given .1)
 
 at-3 : (c : tie.After-known-told3) → cardOf (bytes-3 c) ≡ past-3 (bytes-3 c) (c .before .gprs .given .0 .0) (card-3 c)
@@ -82,7 +82,7 @@ says-4 : (c : tie.After-known-told4)
     → (lineSays (bytes-4 c) 4 "temps" (numberIn (tempsAllowed (c .before .before .before .before .before .gprs .given .0 .0))) ≡ some (c .before .temps .given .0 .0))
     × (c .before .temps .given .0 .1 .0 ≡ linesLength 4 (bytes-4 c))
 says-4 c =
-    figure-is (lineSays (bytes-4 c) 4 "temps" (numberIn (tempsAllowed (c .before .before .before .before .before .gprs .given .0 .0))))
+    answer-is figures-told (lineSays (bytes-4 c) 4 "temps" (numberIn (tempsAllowed (c .before .before .before .before .before .gprs .given .0 .0))))
     (c .before .before .before .temps-line .ensures) (c .before .temps .given .1)
 
 at-4 : (c : tie.After-known-told4) → cardOf (bytes-4 c) ≡ past-4 (bytes-4 c) (card-4 c)
@@ -101,7 +101,7 @@ says-5 : (c : tie.After-known-told5)
     → (lineSays (bytes-5 c) 5 "consts" (numberIn constsAllowed) ≡ some (c .before .consts .given .0 .0))
     × (c .before .consts .given .0 .1 .0 ≡ linesLength 5 (bytes-5 c))
 says-5 c =
-    figure-is (lineSays (bytes-5 c) 5 "consts" (numberIn constsAllowed))
+    answer-is figures-told (lineSays (bytes-5 c) 5 "consts" (numberIn constsAllowed))
     (c .before .before .before .consts-line .ensures) (c .before .consts .given .1)
 
 at-5 : (c : tie.After-known-told5) → cardOf (bytes-5 c) ≡ past-5 (bytes-5 c) (card-5 c)
@@ -120,7 +120,7 @@ says-6 : (c : tie.After-known-told6)
     → (lineSays (bytes-6 c) 6 "stack" (numberIn stackAllowed) ≡ some (c .before .stack .given .0 .0))
     × (c .before .stack .given .0 .1 .0 ≡ linesLength 6 (bytes-6 c))
 says-6 c =
-    figure-is (lineSays (bytes-6 c) 6 "stack" (numberIn stackAllowed))
+    answer-is figures-told (lineSays (bytes-6 c) 6 "stack" (numberIn stackAllowed))
     (c .before .before .before .stack-line .ensures) (c .before .stack .given .1)
 
 at-6 : (c : tie.After-known-told6) → cardOf (bytes-6 c) ≡ past-6 (bytes-6 c) (card-6 c)
@@ -139,7 +139,7 @@ says-7 : (c : tie.After-known-told7)
     → (lineSays (bytes-7 c) 7 "quads" (numberIn quadsAllowed) ≡ some (c .before .quads .given .0 .0))
     × (c .before .quads .given .0 .1 .0 ≡ linesLength 7 (bytes-7 c))
 says-7 c =
-    figure-is (lineSays (bytes-7 c) 7 "quads" (numberIn quadsAllowed))
+    answer-is figures-told (lineSays (bytes-7 c) 7 "quads" (numberIn quadsAllowed))
     (c .before .before .before .quads-line .ensures) (c .before .quads .given .1)
 
 at-7 : (c : tie.After-known-told7) → cardOf (bytes-7 c) ≡ past-7 (bytes-7 c) (card-7 c)
@@ -159,7 +159,7 @@ enum-told c = search needs
 returns : tie.Need-returns
 returns c =
     let s = c .before .before .before .before .args .bytes .now in
-    let e = kind-wrong (lineSays s 1 "kind" (wordIn kinds)) _ (c .before .before .kind-line .ensures) (c .enum-told .given .1) in
+    let e = answer-wrong kinds-told (lineSays s 1 "kind" (wordIn kinds)) _ (c .before .before .kind-line .ensures) (c .enum-told .given .1) in
     sym (card-lines s ∙ stops 1 _ _ e)
 
 build-line-requires : tie.Need-build-line-requires
@@ -174,7 +174,7 @@ enum-told-2 c = search needs
 returns-2 : tie.Need-returns-2
 returns-2 c =
     let t = c .before .before .before in
-    let e = build-wrong (lineSays (bytes-1 t) 2 "build" (wordIn builds)) _
+    let e = answer-wrong builds-told (lineSays (bytes-1 t) 2 "build" (wordIn builds)) _
     (c .before .before .build-line .ensures) (c .enum-told2 .given .1) in
     sym (at-1 t ∙ stops 2 _ _ e)
 
@@ -190,7 +190,7 @@ enum-told-3 c = search needs
 returns-3 : tie.Need-returns-3
 returns-3 c =
     let t = c .before .before .before in
-    let e = figure-wrong (lineSays (bytes-2 t) 3 "gprs" (numberIn gprsAllowed)) _
+    let e = answer-wrong figures-told (lineSays (bytes-2 t) 3 "gprs" (numberIn gprsAllowed)) _
     (c .before .before .gprs-line .ensures) (c .enum-told3 .given .1) in
     sym (at-2 t ∙ stops 3 _ _ e)
 
@@ -206,7 +206,7 @@ enum-told-4 c = search needs
 returns-4 : tie.Need-returns-4
 returns-4 c =
     let t = c .before .before .before in
-    let e = figure-wrong (lineSays (bytes-3 t) 4 "temps" (numberIn (tempsAllowed (t .before .gprs .given .0 .0)))) _
+    let e = answer-wrong figures-told (lineSays (bytes-3 t) 4 "temps" (numberIn (tempsAllowed (t .before .gprs .given .0 .0)))) _
     (c .before .before .temps-line .ensures) (c .enum-told4 .given .1) in
     sym (at-3 t ∙ stops 4 _ _ e)
 
@@ -222,7 +222,7 @@ enum-told-5 c = search needs
 returns-5 : tie.Need-returns-5
 returns-5 c =
     let t = c .before .before .before in
-    let e = figure-wrong (lineSays (bytes-4 t) 5 "consts" (numberIn constsAllowed)) _
+    let e = answer-wrong figures-told (lineSays (bytes-4 t) 5 "consts" (numberIn constsAllowed)) _
     (c .before .before .consts-line .ensures) (c .enum-told5 .given .1) in
     sym (at-4 t ∙ stops 5 _ _ e)
 
@@ -238,7 +238,7 @@ enum-told-6 c = search needs
 returns-6 : tie.Need-returns-6
 returns-6 c =
     let t = c .before .before .before in
-    let e = figure-wrong (lineSays (bytes-5 t) 6 "stack" (numberIn stackAllowed)) _
+    let e = answer-wrong figures-told (lineSays (bytes-5 t) 6 "stack" (numberIn stackAllowed)) _
     (c .before .before .stack-line .ensures) (c .enum-told6 .given .1) in
     sym (at-5 t ∙ stops 6 _ _ e)
 
@@ -254,7 +254,7 @@ enum-told-7 c = search needs
 returns-7 : tie.Need-returns-7
 returns-7 c =
     let t = c .before .before .before in
-    let e = figure-wrong (lineSays (bytes-6 t) 7 "quads" (numberIn quadsAllowed)) _
+    let e = answer-wrong figures-told (lineSays (bytes-6 t) 7 "quads" (numberIn quadsAllowed)) _
     (c .before .before .quads-line .ensures) (c .enum-told7 .given .1) in
     sym (at-6 t ∙ stops 7 _ _ e)
 

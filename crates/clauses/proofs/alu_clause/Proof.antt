@@ -20,7 +20,7 @@ returns : tie.Need-returns Inv-loop μ-loop
 returns c =
     let a = c .before .before .before .args in
     outside (a .kind) (a .push-before) (a .limits) (now (a .words)) (a .place) (a .start) (a .slots)
-    (sym (c .before .is-inside .ensures) ∙ not-true _ (c .if1 .taken))
+    (sym (c .before .slots-lie-in .ensures) ∙ not-true _ (c .if1 .taken))
 
 loop-holds : tie.Need-loop-holds Inv-loop μ-loop
 loop-holds c =
@@ -33,7 +33,7 @@ next-group-requires c κs =
     let pixel = c .before .before .before .before .before .before .before in
     let inside = pixel .before .before in
     let a = inside .before .before .args in
-    (readable (pixel .is-pixel .result) (a .limits) (now (a .words)) (a .place) (a .start) (a .slots) (search needs) (inside .is-inside .ensures) (pixel .before .if1 .left) (test .before .loop .inv) (test .is-slot-below .ensures) (c .before .before .if2 .taken), (c .before .before .before .before .before .before .gap-starts .ensures, c .before .before .before .before .before .gap-widths .ensures))
+    (readable (pixel .is-pixel .result) (a .limits) (now (a .words)) (a .place) (a .start) (a .slots) (search needs) (inside .slots-lie-in .ensures) (pixel .before .if1 .left) (test .before .loop .inv) (test .is-slot-below .ensures) (c .before .before .if2 .taken), (c .before .before .before .before .before .before .gap-starts .ensures, c .before .before .before .before .before .gap-widths .ensures))
 
 returns-2 : tie.Need-returns-2 Inv-loop μ-loop
 returns-2 c =
@@ -41,7 +41,7 @@ returns-2 c =
     let pixel = c .before .before .before .before .before .before .before .before .before .before .before .before .before .before in
     let inside = pixel .before .before in
     let a = inside .before .before .args in
-    going-broken (pixel .is-pixel .result) (a .limits) (now (a .words)) (a .place) (a .start) (a .slots) (search needs) (inside .is-inside .ensures) (pixel .before .if1 .left) (test .before .loop .inv) (test .is-slot-below .ensures) (c .before .before .before .before .before .before .before .before .before .if2 .taken) (c .before .before .before .before .before .before .next-group .ensures)
+    going-broken (pixel .is-pixel .result) (a .limits) (now (a .words)) (a .place) (a .start) (a .slots) (search needs) (inside .slots-lie-in .ensures) (pixel .before .if1 .left) (test .before .loop .inv) (test .is-slot-below .ensures) (c .before .before .before .before .before .before .before .before .before .if2 .taken) (c .before .before .before .before .before .before .next-group .ensures)
     (a .kind) (a .push-before) (pixel .is-pixel .ensures) (c .before .before .before .before .step .given .1) (c .before .before .slots-left .ensures)
     (c .before .slot-behind .ensures) (c .refused .ensures)
 
@@ -51,7 +51,7 @@ loop-less c =
     let pixel = c .before .before .before .before .before .before .before .before .before .before .before .before .before .before in
     let inside = pixel .before .before in
     let a = inside .before .before .args in
-    going-less (pixel .is-pixel .result) (a .limits) (now (a .words)) (a .place) (a .start) (a .slots) (search needs) (inside .is-inside .ensures) (pixel .before .if1 .left) (test .before .loop .inv) (test .is-slot-below .ensures) (c .before .before .before .before .before .before .before .before .before .if2 .taken) (c .before .before .before .before .before .before .next-group .ensures)
+    going-less (pixel .is-pixel .result) (a .limits) (now (a .words)) (a .place) (a .start) (a .slots) (search needs) (inside .slots-lie-in .ensures) (pixel .before .if1 .left) (test .before .loop .inv) (test .is-slot-below .ensures) (c .before .before .before .before .before .before .before .before .before .if2 .taken) (c .before .before .before .before .before .before .next-group .ensures)
     (c .before .before .before .before .step2 .given .1) (c .slots-left2 .ensures)
 
 loop-again : tie.Need-loop-again Inv-loop μ-loop
@@ -60,7 +60,7 @@ loop-again c =
     let pixel = c .before .before .before .before .before .before .before .before .before .before .before .before .before .before in
     let inside = pixel .before .before in
     let a = inside .before .before .args in
-    going-next (pixel .is-pixel .result) (a .limits) (now (a .words)) (a .place) (a .start) (a .slots) (search needs) (inside .is-inside .ensures) (pixel .before .if1 .left) (test .before .loop .inv) (test .is-slot-below .ensures) (c .before .before .before .before .before .before .before .before .before .if2 .taken) (c .before .before .before .before .before .before .next-group .ensures)
+    going-next (pixel .is-pixel .result) (a .limits) (now (a .words)) (a .place) (a .start) (a .slots) (search needs) (inside .slots-lie-in .ensures) (pixel .before .if1 .left) (test .before .loop .inv) (test .is-slot-below .ensures) (c .before .before .before .before .before .before .before .before .before .if2 .taken) (c .before .before .before .before .before .before .next-group .ensures)
     (c .before .before .before .before .step2 .given .1) (c .slots-left2 .ensures) (c .before .before .together .ensures) (c .before .slot-quadword .ensures)
 
 returns-3 : tie.Need-returns-3 Inv-loop μ-loop
@@ -69,7 +69,7 @@ returns-3 c =
     let pixel = c .before .before .before .before .before .before in
     let inside = pixel .before .before in
     let a = inside .before .before .args in
-    going-done (pixel .is-pixel .result) (a .limits) (now (a .words)) (a .place) (a .start) (a .slots) (search needs) (inside .is-inside .ensures) (pixel .before .if1 .left) (test .before .loop .inv) (a .kind) (a .push-before) (pixel .is-pixel .ensures) (test .is-slot-below .ensures) (c .before .if2 .left)
+    going-done (pixel .is-pixel .result) (a .limits) (now (a .words)) (a .place) (a .start) (a .slots) (search needs) (inside .slots-lie-in .ensures) (pixel .before .if1 .left) (test .before .loop .inv) (a .kind) (a .push-before) (pixel .is-pixel .ensures) (test .is-slot-below .ensures) (c .before .if2 .left)
     (c .push-verdict .ensures)
 
 pub alu-clause-spec : {M : Type 1} → statement M

@@ -146,7 +146,7 @@ returns-2 c =
     reading-last (now (a .words)) (a .at) (a .left) (a .limits) (c .before .before .before .before .before .before .before .before .loop .inv (a .at) (f .0))
     (c .before .before .before .before .before .before .before .loop-test .taken) (ltb-true _ (a .left .0) (sym b ∙ not-false _ (c .before .before .before .before .before .if1 .left)))
     (low-there (now (a .words)) (a .at) (f .0) j) (high-there (now (a .words)) (a .at) (f .0) j)
-    (c .before .before .read-instruction .ensures) (c .before .field .ensures) (c .if2 .taken)
+    (c .before .before .read-instruction .ensures) (c .before .read .ensures) (c .if2 .taken)
 
 loop-less : tie.Need-loop-less Inv-loop μ-loop
 loop-less c = omega arith
@@ -159,7 +159,7 @@ loop-again c at e =
     reading-next (now (a .words)) at (a .left) (a .limits) (c .before .before .before .before .before .before .before .before .loop .inv at e)
     (c .before .before .before .before .before .before .before .loop-test .taken) (ltb-true _ (a .left .0) (sym b ∙ not-false _ (c .before .before .before .before .before .if1 .left)))
     (low-there (now (a .words)) at e j) (high-there (now (a .words)) at e j)
-    (c .before .before .read-instruction .ensures) (c .before .field .ensures) (c .if2 .left)
+    (c .before .before .read-instruction .ensures) (c .before .read .ensures) (c .if2 .left)
 
 returns-3 : tie.Need-returns-3 Inv-loop μ-loop
 returns-3 c =

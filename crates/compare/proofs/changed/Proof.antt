@@ -3,7 +3,8 @@
 use borrow.Author.Needs.{needs}
 use native.Mathlib.Omega.{arith}
 use lib.ListN.{length-take, length-drop}
-use Rattle.compare.proofs.OfChanged.{to-the-end, part-words, part-place}
+use Rattle.laws.proofs.OfLists.{to-the-end}
+use Rattle.compare.proofs.OfChanged.{part-words, part-place}
 use Rattle.compare.proofs.changed.Statement.{statement}
 use Rattle.compare.proofs.changed.Tie as tie
 

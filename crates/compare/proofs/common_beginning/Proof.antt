@@ -4,7 +4,7 @@ use Prim.Native.Nat.{_≤_, _-_}
 use mathlib.Core.Path.{_≡_, _∙_}
 use borrow.Author.Needs.{needs}
 use native.Mathlib.Omega.{arith}
-use Rattle.compare.specs.Changed.{CommonBeginning}
+use Rattle.compare.specs.Laws.{CommonBeginning}
 use Rattle.compare.proofs.OfChanged.{none-common, one-more-common, beginning-ends}
 use Rattle.compare.proofs.common_beginning.Statement.{statement}
 use Rattle.compare.proofs.common_beginning.Tie as tie
@@ -49,7 +49,7 @@ loop-again c = (
 
 returns-2 : tie.Need-returns-2 Inv-loop μ-loop
 returns-2 c =
-    let ended : c .before .before .least .result ≡ c .before .loop .n = omega arith in
+    let ended : c .before .before .smaller .result ≡ c .before .loop .n = omega arith in
     let common = c .before .loop .inv .1 in
     (ended ∙ beginning-ends _ _ _ common (λ l k e. omega arith), rw ended common)
 

@@ -4,7 +4,7 @@ use Prim.Native.Nat.{_≤_, _-_}
 use mathlib.Core.Path.{_≡_, _∙_}
 use borrow.Author.Needs.{needs}
 use native.Mathlib.Omega.{arith}
-use Rattle.compare.specs.Changed.{CommonEnding}
+use Rattle.compare.specs.Laws.{CommonEnding}
 use Rattle.compare.proofs.OfChanged.{none-common-ending, one-more-common-ending, ending-ends}
 use Rattle.compare.proofs.common_ending.Statement.{statement}
 use Rattle.compare.proofs.common_ending.Tie as tie
@@ -61,7 +61,7 @@ loop-again c = (
 
 returns-2 : tie.Need-returns-2 Inv-loop μ-loop
 returns-2 c =
-    let ended : c .before .before .least .result ≡ c .before .loop .n = omega arith in
+    let ended : c .before .before .smaller .result ≡ c .before .loop .n = omega arith in
     let common = c .before .loop .inv .1 in
     (ended ∙ ending-ends _ _ _ common (λ l k e. omega arith), rw ended common)
 

@@ -12,14 +12,14 @@ returns-2 : tie.Need-returns-2
 returns-2 c =
     let a = c .before .before .before .before .args in
     relative-destination (a .kind) (a .number) (a .limits) (a .word1) _ (c .before .before .before .is-semantic .ensures)
-    _ (c .before .before .if1 .left) (c .before .field .ensures) (c .if2 .taken)
+    _ (c .before .before .if1 .left) (c .before .read .ensures) (c .if2 .taken)
 
 returns-3 : tie.Need-returns-3
 returns-3 c =
     let a = c .before .before .before .before .before .before .args in
     named-destination (a .kind) (a .number) (a .limits) (a .word1) _
     (c .before .before .before .before .before .is-semantic .ensures) _ _ _ (c .before .before .before .before .if1 .left)
-    (c .before .before .before .field .ensures) (c .before .before .if2 .left) (c .before .field2 .ensures)
+    (c .before .before .before .read .ensures) (c .before .before .if2 .left) (c .before .read2 .ensures)
     (c .register-granted .ensures)
 
 pub destination-granted-spec : {M : Type 1} → statement M

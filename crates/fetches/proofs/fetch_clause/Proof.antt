@@ -25,7 +25,7 @@ abbrev μ-loop : tie.MeasureT-loop
 returns : tie.Need-returns Inv-loop μ-loop
 returns c =
     let a = c .before .before .before .args in
-    outside (a .kind) (a .limits) (now (a .words)) (a .place) (a .start) (a .fetches) (sym (c .before .is-inside .ensures) ∙ not-true _ (c .if1 .taken))
+    outside (a .kind) (a .limits) (now (a .words)) (a .place) (a .start) (a .fetches) (sym (c .before .fetches-lie-in .ensures) ∙ not-true _ (c .if1 .taken))
 
 loop-holds : tie.Need-loop-holds Inv-loop μ-loop
 loop-holds c = (omega arith, below-none _)
@@ -37,7 +37,7 @@ mul-fetch-fault c =
     let test = tested .before in
     let inside = test .before .before .before in
     let a = inside .before .before .args in
-    let f = there (search needs) (a .start) (a .fetches) (test .before .loop .i) (inside .is-inside .ensures) (test .before .before .if1 .left) (test .is-slot-below .ensures) (tested .if2 .taken) (low .before .before .fetch-slot .ensures) (low .before .slot-quadword .ensures) (low .low-word .ensures) in
+    let f = there (search needs) (a .start) (a .fetches) (test .before .loop .i) (inside .fetches-lie-in .ensures) (test .before .before .if1 .left) (test .is-slot-below .ensures) (tested .if2 .taken) (low .before .before .fetch-slot .ensures) (low .before .slot-quadword .ensures) (low .low-word .ensures) in
     omega (arith, f .0, f .1)
 
 shared-slice-read-fetch-fault : tie.Need-shared-slice-read-fetch-fault Inv-loop μ-loop
@@ -47,7 +47,7 @@ shared-slice-read-fetch-fault c =
     let test = tested .before in
     let inside = test .before .before .before in
     let a = inside .before .before .args in
-    let f = there (search needs) (a .start) (a .fetches) (test .before .loop .i) (inside .is-inside .ensures) (test .before .before .if1 .left) (test .is-slot-below .ensures) (tested .if2 .taken) (low .before .before .fetch-slot .ensures) (low .before .slot-quadword .ensures) (low .low-word .ensures) in
+    let f = there (search needs) (a .start) (a .fetches) (test .before .loop .i) (inside .fetches-lie-in .ensures) (test .before .before .if1 .left) (test .is-slot-below .ensures) (tested .if2 .taken) (low .before .before .fetch-slot .ensures) (low .before .slot-quadword .ensures) (low .low-word .ensures) in
     omega (arith, f .0, f .1)
 
 add-fetch-fault : tie.Need-add-fetch-fault Inv-loop μ-loop
@@ -57,7 +57,7 @@ add-fetch-fault c =
     let test = tested .before in
     let inside = test .before .before .before in
     let a = inside .before .before .args in
-    let f = there (search needs) (a .start) (a .fetches) (test .before .loop .i) (inside .is-inside .ensures) (test .before .before .if1 .left) (test .is-slot-below .ensures) (tested .if2 .taken) (low .before .before .fetch-slot .ensures) (low .before .slot-quadword .ensures) (low .low-word .ensures) in
+    let f = there (search needs) (a .start) (a .fetches) (test .before .loop .i) (inside .fetches-lie-in .ensures) (test .before .before .if1 .left) (test .is-slot-below .ensures) (tested .if2 .taken) (low .before .before .fetch-slot .ensures) (low .before .slot-quadword .ensures) (low .low-word .ensures) in
     omega (arith, f .0, f .1)
 
 mul-fetch-fault-2 : tie.Need-mul-fetch-fault-2 Inv-loop μ-loop
@@ -67,7 +67,7 @@ mul-fetch-fault-2 c =
     let test = tested .before in
     let inside = test .before .before .before in
     let a = inside .before .before .args in
-    let f = there (search needs) (a .start) (a .fetches) (test .before .loop .i) (inside .is-inside .ensures) (test .before .before .if1 .left) (test .is-slot-below .ensures) (tested .if2 .taken) (low .before .before .fetch-slot .ensures) (low .before .slot-quadword .ensures) (low .low-word .ensures) in
+    let f = there (search needs) (a .start) (a .fetches) (test .before .loop .i) (inside .fetches-lie-in .ensures) (test .before .before .if1 .left) (test .is-slot-below .ensures) (tested .if2 .taken) (low .before .before .fetch-slot .ensures) (low .before .slot-quadword .ensures) (low .low-word .ensures) in
     omega (arith, f .0, f .1)
 
 shared-slice-read-fetch-fault-2 : tie.Need-shared-slice-read-fetch-fault-2 Inv-loop μ-loop
@@ -77,7 +77,7 @@ shared-slice-read-fetch-fault-2 c =
     let test = tested .before in
     let inside = test .before .before .before in
     let a = inside .before .before .args in
-    let f = there (search needs) (a .start) (a .fetches) (test .before .loop .i) (inside .is-inside .ensures) (test .before .before .if1 .left) (test .is-slot-below .ensures) (tested .if2 .taken) (low .before .before .fetch-slot .ensures) (low .before .slot-quadword .ensures) (low .low-word .ensures) in
+    let f = there (search needs) (a .start) (a .fetches) (test .before .loop .i) (inside .fetches-lie-in .ensures) (test .before .before .if1 .left) (test .is-slot-below .ensures) (tested .if2 .taken) (low .before .before .fetch-slot .ensures) (low .before .slot-quadword .ensures) (low .low-word .ensures) in
     omega (arith, f .0, f .1)
 
 add-fetch-fault-2 : tie.Need-add-fetch-fault-2 Inv-loop μ-loop
@@ -87,7 +87,7 @@ add-fetch-fault-2 c =
     let test = tested .before in
     let inside = test .before .before .before in
     let a = inside .before .before .args in
-    let f = there (search needs) (a .start) (a .fetches) (test .before .loop .i) (inside .is-inside .ensures) (test .before .before .if1 .left) (test .is-slot-below .ensures) (tested .if2 .taken) (low .before .before .fetch-slot .ensures) (low .before .slot-quadword .ensures) (low .low-word .ensures) in
+    let f = there (search needs) (a .start) (a .fetches) (test .before .loop .i) (inside .fetches-lie-in .ensures) (test .before .before .if1 .left) (test .is-slot-below .ensures) (tested .if2 .taken) (low .before .before .fetch-slot .ensures) (low .before .slot-quadword .ensures) (low .low-word .ensures) in
     omega (arith, f .0, f .1)
 
 mul-fetch-fault-3 : tie.Need-mul-fetch-fault-3 Inv-loop μ-loop
@@ -97,7 +97,7 @@ mul-fetch-fault-3 c =
     let test = tested .before in
     let inside = test .before .before .before in
     let a = inside .before .before .args in
-    let f = there (search needs) (a .start) (a .fetches) (test .before .loop .i) (inside .is-inside .ensures) (test .before .before .if1 .left) (test .is-slot-below .ensures) (tested .if2 .taken) (low .before .before .fetch-slot .ensures) (low .before .slot-quadword .ensures) (low .low-word .ensures) in
+    let f = there (search needs) (a .start) (a .fetches) (test .before .loop .i) (inside .fetches-lie-in .ensures) (test .before .before .if1 .left) (test .is-slot-below .ensures) (tested .if2 .taken) (low .before .before .fetch-slot .ensures) (low .before .slot-quadword .ensures) (low .low-word .ensures) in
     omega (arith, f .0, f .1)
 
 shared-slice-read-fetch-fault-3 : tie.Need-shared-slice-read-fetch-fault-3 Inv-loop μ-loop
@@ -107,7 +107,7 @@ shared-slice-read-fetch-fault-3 c =
     let test = tested .before in
     let inside = test .before .before .before in
     let a = inside .before .before .args in
-    let f = there (search needs) (a .start) (a .fetches) (test .before .loop .i) (inside .is-inside .ensures) (test .before .before .if1 .left) (test .is-slot-below .ensures) (tested .if2 .taken) (low .before .before .fetch-slot .ensures) (low .before .slot-quadword .ensures) (low .low-word .ensures) in
+    let f = there (search needs) (a .start) (a .fetches) (test .before .loop .i) (inside .fetches-lie-in .ensures) (test .before .before .if1 .left) (test .is-slot-below .ensures) (tested .if2 .taken) (low .before .before .fetch-slot .ensures) (low .before .slot-quadword .ensures) (low .low-word .ensures) in
     omega (arith, f .0, f .1)
 
 returns-2 : tie.Need-returns-2 Inv-loop μ-loop
@@ -117,12 +117,12 @@ returns-2 c =
     let test = tested .before in
     let inside = test .before .before .before in
     let a = inside .before .before .args in
-    let f = there (search needs) (a .start) (a .fetches) (test .before .loop .i) (inside .is-inside .ensures) (test .before .before .if1 .left) (test .is-slot-below .ensures) (tested .if2 .taken) (low .before .before .fetch-slot .ensures) (low .before .slot-quadword .ensures) (low .low-word .ensures) in
+    let f = there (search needs) (a .start) (a .fetches) (test .before .loop .i) (inside .fetches-lie-in .ensures) (test .before .before .if1 .left) (test .is-slot-below .ensures) (tested .if2 .taken) (low .before .before .fetch-slot .ensures) (low .before .slot-quadword .ensures) (low .low-word .ensures) in
     let i = test .before .loop .i in
     let told = sym (c .before .before .fault .given .1) ∙ fault-at (a .kind) (a .limits) (now (a .words)) (a .start) (i .0) _ _ (f .0) (c .before .before .before .before .fetch-fault .ensures) in
     within (a .kind) (a .limits) (now (a .words)) (a .place) (a .start) (a .fetches) _
-    (sym (inside .is-inside .ensures) ∙ not-false _ (test .before .before .if1 .left))
-    (ap (Refused (c .before .before .fault .given .0 .0) (Quadword (a .place))) (slot-there (search needs) (a .start) (a .fetches) (test .before .loop .i) (inside .is-inside .ensures) (test .before .before .if1 .left) (test .is-slot-below .ensures) (tested .if2 .taken) (c .fetch-slot2 .ensures))
+    (sym (inside .fetches-lie-in .ensures) ∙ not-false _ (test .before .before .if1 .left))
+    (ap (Refused (c .before .before .fault .given .0 .0) (Quadword (a .place))) (slot-there (search needs) (a .start) (a .fetches) (test .before .loop .i) (inside .fetches-lie-in .ensures) (test .before .before .if1 .left) (test .is-slot-below .ensures) (tested .if2 .taken) (c .fetch-slot2 .ensures))
     ∙ sym (below-found (fetchChecks (a .kind) (a .limits) (now (a .words)) (a .place) (a .start)) (a .fetches .0) (i .0) (ltb-true (i .0) (a .fetches .0) (sym (test .is-slot-below .ensures) ∙ tested .if2 .taken)) (test .before .loop .inv .1) (fetch-broken (a .kind) (a .limits) (now (a .words)) (a .place) (a .start) (i .0) _ told)))
 
 loop-less : tie.Need-loop-less Inv-loop μ-loop
@@ -132,7 +132,7 @@ loop-less c =
     let test = tested .before in
     let inside = test .before .before .before in
     let a = inside .before .before .args in
-    let n = next-there (search needs) (a .start) (a .fetches) (test .before .loop .i) (inside .is-inside .ensures) (test .before .before .if1 .left) (test .is-slot-below .ensures) (tested .if2 .taken) (c .slot-behind .ensures) in
+    let n = next-there (search needs) (a .start) (a .fetches) (test .before .loop .i) (inside .fetches-lie-in .ensures) (test .before .before .if1 .left) (test .is-slot-below .ensures) (tested .if2 .taken) (c .slot-behind .ensures) in
     omega (arith, n .0, n .1)
 
 loop-again : tie.Need-loop-again Inv-loop μ-loop
@@ -142,9 +142,9 @@ loop-again c =
     let test = tested .before in
     let inside = test .before .before .before in
     let a = inside .before .before .args in
-    let f = there (search needs) (a .start) (a .fetches) (test .before .loop .i) (inside .is-inside .ensures) (test .before .before .if1 .left) (test .is-slot-below .ensures) (tested .if2 .taken) (low .before .before .fetch-slot .ensures) (low .before .slot-quadword .ensures) (low .low-word .ensures) in
+    let f = there (search needs) (a .start) (a .fetches) (test .before .loop .i) (inside .fetches-lie-in .ensures) (test .before .before .if1 .left) (test .is-slot-below .ensures) (tested .if2 .taken) (low .before .before .fetch-slot .ensures) (low .before .slot-quadword .ensures) (low .low-word .ensures) in
     let i = test .before .loop .i in
-    let n = next-there (search needs) (a .start) (a .fetches) (test .before .loop .i) (inside .is-inside .ensures) (test .before .before .if1 .left) (test .is-slot-below .ensures) (tested .if2 .taken) (c .slot-behind .ensures) in
+    let n = next-there (search needs) (a .start) (a .fetches) (test .before .loop .i) (inside .fetches-lie-in .ensures) (test .before .before .if1 .left) (test .is-slot-below .ensures) (tested .if2 .taken) (c .slot-behind .ensures) in
     let told = sym (c .before .enum-told .given .1) ∙ fault-at (a .kind) (a .limits) (now (a .words)) (a .start) (i .0) _ _ (f .0) (c .before .before .before .fetch-fault .ensures) in (
       n .1,
       rw (n .0 ∙ add-one (i .0)) (below-next (fetchChecks (a .kind) (a .limits) (now (a .words)) (a .place) (a .start)) (i .0) (test .before .loop .inv .1) (fetch-clean (a .kind) (a .limits) (now (a .words)) (a .place) (a .start) (i .0) told)),
@@ -158,7 +158,7 @@ returns-3 c =
     let i = test .before .loop .i in
     let done : i .0 ≡ a .fetches .0 = omega (arith, test .before .loop .inv .0, ltb-false (i .0) (a .fetches .0) (sym (test .is-slot-below .ensures) ∙ c .if2 .left)) in
     within (a .kind) (a .limits) (now (a .words)) (a .place) (a .start) (a .fetches) _
-    (sym (inside .is-inside .ensures) ∙ not-false _ (test .before .before .if1 .left))
+    (sym (inside .fetches-lie-in .ensures) ∙ not-false _ (test .before .before .if1 .left))
     (sym (test .before .loop .inv .1)
     ∙ ap (λ (n : ℕ). firstBroken (below (fetchChecks (a .kind) (a .limits) (now (a .words)) (a .place) (a .start)) n)) done)
 

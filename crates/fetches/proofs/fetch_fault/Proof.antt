@@ -6,21 +6,21 @@ use Rattle.fetches.proofs.fetch_fault.Tie as tie
 returns : tie.Need-returns
 returns c =
     let a = c .before .before .before .args in
-    breaks-8 (a .kind) (a .limits) (a .word0) (a .word1) (a .word3) _ _ (c .before .before .field .ensures)
+    breaks-8 (a .kind) (a .limits) (a .word0) (a .word1) (a .word3) _ _ (c .before .before .read .ensures)
     (c .before .is-bad .ensures) (c .if1 .taken)
 
 returns-2 : tie.Need-returns-2
 returns-2 c =
     let a = c .before .before .before .before .before .args in
     breaks-9 (a .kind) (a .limits) (a .word0) (a .word1) (a .word3) _ _
-    (c .before .before .before .before .field .ensures) (c .before .before .before .is-bad .ensures) _
+    (c .before .before .before .before .read .ensures) (c .before .before .before .is-bad .ensures) _
     (c .before .before .if1 .left) (c .before .registers-granted .ensures) (c .if2 .taken)
 
 returns-3 : tie.Need-returns-3
 returns-3 c =
     let a = c .before .before .before .before .before .args in
     breaks-none (a .kind) (a .limits) (a .word0) (a .word1) (a .word3) _ _
-    (c .before .before .before .before .field .ensures) (c .before .before .before .is-bad .ensures) _
+    (c .before .before .before .before .read .ensures) (c .before .before .before .is-bad .ensures) _
     (c .before .before .if1 .left) (c .before .registers-granted .ensures) (c .if2 .left)
 
 pub fetch-fault-spec : {M : Type 1} → statement M

@@ -1,6 +1,6 @@
 -- `groups::group_fault` meets its contract, rule by rule. Assumes nothing.
 use borrow.Author.Needs.{needs}
-use Rattle.groups.proofs.OfSeen.{breaks-11, breaks-12, breaks-13, breaks-14, breaks-15, breaks-none}
+use Rattle.groups.proofs.OfCode.{breaks-11, breaks-12, breaks-13, breaks-14, breaks-15, breaks-none}
 use Rattle.groups.proofs.group_fault.Statement.{statement}
 use Rattle.groups.proofs.group_fault.Tie as tie
 

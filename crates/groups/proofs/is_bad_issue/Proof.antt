@@ -1,7 +1,7 @@
 -- `groups::is_bad_issue` meets its contract. Assumes nothing.
 use mathlib.Core.Bool.{not, _&&_, _||_}
 use lib.Dec.{ltb}
-use Rattle.groups.specs.Seen.{badIssues}
+use Rattle.groups.specs.Code.{badIssues}
 use Rattle.groups.proofs.is_bad_issue.Statement.{statement}
 use Rattle.groups.proofs.is_bad_issue.Tie as tie
 

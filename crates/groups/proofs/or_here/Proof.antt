@@ -1,6 +1,6 @@
 -- `groups::or_here` meets its contract. Assumes nothing.
 use borrow.Author.Needs.{needs}
-use Rattle.groups.proofs.OfSeen.{here, not-here, earlier}
+use Rattle.groups.proofs.OfCode.{here, not-here, earlier}
 use Rattle.groups.proofs.or_here.Statement.{statement}
 use Rattle.groups.proofs.or_here.Tie as tie
 

@@ -1,5 +1,5 @@
 -- `groups::read_instruction` meets its contract, field by field. Assumes nothing.
-use Rattle.groups.proofs.OfSeen.{next-seen}
+use Rattle.groups.proofs.OfCode.{next-seen}
 use Rattle.groups.proofs.read_instruction.Statement.{statement}
 use Rattle.groups.proofs.read_instruction.Tie as tie
 
@@ -12,9 +12,9 @@ returns c =
     next-seen (a .limits) (a .j) (a .first) (a .low) (a .high) (a .seen)
     (record {
       class-is = class .class-of .ensures;
-      chan-is = unit .before .field .ensures;
+      chan-is = unit .before .read .ensures;
       unit-is = unit .unit-for .ensures;
-      swizzle-is = relative .before .before .before .field2 .ensures;
+      swizzle-is = relative .before .before .before .read2 .ensures;
       bad-is = relative .before .before .is-bad-unit .ensures;
       uneven-is = relative .before .is-uneven .ensures;
       taken-is = c .before .before .before .before .before .before .before .before .is-taken .ensures;

@@ -8,13 +8,13 @@ use Rattle.instructions.proofs.class_of.Tie as tie
 returns : tie.Need-returns
 returns c =
     c .op3-class .ensures
-    ∙ ap op3Class (c .before .field .ensures)
+    ∙ ap op3Class (c .before .read .ensures)
     ∙ class-op3 _ (sym (c .before .before .before .is-op3 .ensures) ∙ c .before .before .if1 .taken)
 
 returns-2 : tie.Need-returns-2
 returns-2 c =
     c .op2-class .ensures
-    ∙ ap op2Class (c .before .field2 .ensures)
+    ∙ ap op2Class (c .before .read2 .ensures)
     ∙ class-op2 _ (sym (c .before .before .before .is-op3 .ensures) ∙ c .before .before .if1 .left)
 
 pub class-of-spec : {M : Type 1} → statement M

@@ -7,7 +7,7 @@ use Rattle.instructions.proofs.has_relative.Tie as tie
 returns : tie.Need-returns
 returns c =
     let a = c .before .before .before .before .before .before .before .args in
-    relative-tests (a .low) (a .high) (c .before .before .before .before .before .before .field .ensures)
+    relative-tests (a .low) (a .high) (c .before .before .before .before .before .before .read .ensures)
     (asked isRelative (c .before .before .before .before .before .source0 .ensures) (c .before .before .before .before .is-relative .ensures))
     (asked isRelative (c .before .before .before .source1 .ensures) (c .before .before .is-relative2 .ensures))
     (asked isRelative (c .before .third-source .ensures) (c .is-relative3 .ensures))

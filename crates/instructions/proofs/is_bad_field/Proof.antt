@@ -7,9 +7,9 @@ use Rattle.instructions.proofs.is_bad_field.Tie as tie
 returns : tie.Need-returns
 returns c =
     let a = c .before .before .before .before .before .before .before .before .before .args in
-    field-tests (a .low) (a .high) (c .before .before .before .before .before .before .before .before .field .ensures)
-    (c .before .before .before .before .before .before .before .field2 .ensures)
-    (c .before .before .before .before .before .before .field3 .ensures)
+    field-tests (a .low) (a .high) (c .before .before .before .before .before .before .before .before .read .ensures)
+    (c .before .before .before .before .before .before .before .read2 .ensures)
+    (c .before .before .before .before .before .before .read3 .ensures)
     (asked badSource (c .before .before .before .before .before .source0 .ensures) (c .before .before .before .before .is-bad-source .ensures))
     (asked badSource (c .before .before .before .source1 .ensures) (c .before .before .is-bad-source2 .ensures))
     (asked badSource (c .before .third-source .ensures) (c .is-bad-source3 .ensures))

@@ -9,7 +9,7 @@ use Rattle.instructions.proofs.is_op3.Tie as tie
 
 returns : tie.Need-returns
 unfolding isOp3
-returns c = ap (λ (x : ℕ). not (eqb x 0)) (c .field .ensures)
+returns c = ap (λ (x : ℕ). not (eqb x 0)) (c .read .ensures)
 
 pub is-op3-spec : {M : Type 1} → statement M
 is-op3-spec =

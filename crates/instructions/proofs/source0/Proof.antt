@@ -4,7 +4,7 @@ use Rattle.instructions.proofs.source0.Tie as tie
 
 returns : tie.Need-returns
 returns c =
-    λ i. record { sel = c .before .before .field .ensures i; rel = c .before .field2 .ensures i; chan = c .field3 .ensures i }
+    λ i. record { sel = c .before .before .read .ensures i; rel = c .before .read2 .ensures i; chan = c .read3 .ensures i }
 
 pub source0-spec : {M : Type 1} → statement M
 source0-spec =

@@ -7,8 +7,8 @@ returns : tie.Need-returns
 returns c =
     let a = c .before .before .before .before .before .before .before .args in
     third-made (a .high) (c .before .before .before .before .before .before .is-op3 .ensures)
-    (c .before .before .before .before .before .field .ensures) (c .before .before .before .before .chosen .ensures)
-    (c .before .before .before .field2 .ensures) (c .before .before .chosen2 .ensures) (c .before .field3 .ensures)
+    (c .before .before .before .before .before .read .ensures) (c .before .before .before .before .chosen .ensures)
+    (c .before .before .before .read2 .ensures) (c .before .before .chosen2 .ensures) (c .before .read3 .ensures)
     (c .chosen3 .ensures)
 
 pub third-source-spec : {M : Type 1} → statement M

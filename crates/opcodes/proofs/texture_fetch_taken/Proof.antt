@@ -3,13 +3,14 @@
 use mathlib.Core.Path.{refl}
 use mathlib.Core.Bool.{false}
 use native.Mathlib.Omega.{arith}
-use Rattle.opcodes.specs.Numbers.{textureFetches, textureFetchTaken}
+use Rattle.opcodes.specs.declared.cf.FetchKind.the-variants.{Texture}
+use Rattle.opcodes.specs.Numbers.{textureFetches, fetchTaken}
 use Rattle.opcodes.proofs.OfRuns.{Listed, run, behind}
 use Rattle.opcodes.proofs.texture_fetch_taken.Statement.{statement}
 use Rattle.opcodes.proofs.texture_fetch_taken.Tie as tie
 
-listed : Listed false textureFetches textureFetchTaken
-unfolding textureFetchTaken
+listed : Listed false textureFetches (fetchTaken Texture)
+unfolding fetchTaken
 listed = record { agrees = λ k. refl }
 
 pub texture-fetch-taken-spec : {M : Type 1} → statement M

@@ -3,13 +3,14 @@
 use mathlib.Core.Path.{refl}
 use mathlib.Core.Bool.{false}
 use native.Mathlib.Omega.{arith}
-use Rattle.opcodes.specs.Numbers.{vertexFetches, vertexFetchTaken}
+use Rattle.opcodes.specs.declared.cf.FetchKind.the-variants.{Vertex}
+use Rattle.opcodes.specs.Numbers.{vertexFetches, fetchTaken}
 use Rattle.opcodes.proofs.OfRuns.{Listed, run, behind}
 use Rattle.opcodes.proofs.vertex_fetch_taken.Statement.{statement}
 use Rattle.opcodes.proofs.vertex_fetch_taken.Tie as tie
 
-listed : Listed false vertexFetches vertexFetchTaken
-unfolding vertexFetchTaken
+listed : Listed false vertexFetches (fetchTaken Vertex)
+unfolding fetchTaken
 listed = record { agrees = λ k. refl }
 
 pub vertex-fetch-taken-spec : {M : Type 1} → statement M

@@ -1,8 +1,6 @@
 -- `report::is_released` meets its contract: each arm answers for the build that it matched. Assumes nothing.
 use borrow.Author.Needs.{needs}
-use mathlib.Core.Path.{ap, _∙_}
-use Prim.Native.Nat.{ℕ}
-use lib.Dec.{eqb}
+use mathlib.Core.Path.{_∙_}
 use Rattle.report.proofs.OfLines.{released-as-told}
 use Rattle.report.proofs.is_released.Statement.{statement}
 use Rattle.report.proofs.is_released.Tie as tie
@@ -12,7 +10,7 @@ unknown c = released-as-told (c .before .before .args .verdict) (c .enum-told .g
 
 production : tie.Need-returns-2
 production c =
-    ap (λ (n : ℕ). eqb n 0) (c .verdict-number .ensures)
+    c .is-accepted .ensures
     ∙ released-as-told (c .before .before .before .args .verdict) (c .before .enum-told2 .given .1)
 
 debug : tie.Need-returns-3

@@ -1,7 +1,7 @@
 -- `screens::asks_literal` meets its contract. Assumes nothing.
 use mathlib.Core.Bool.{_&&_, _||_}
 use lib.Dec.{eqb}
-use Rattle.screens.specs.Gaps.{asksLiteral}
+use Rattle.screens.specs.Code.{asksLiteral}
 use Rattle.screens.proofs.asks_literal.Statement.{statement}
 use Rattle.screens.proofs.asks_literal.Tie as tie
 
@@ -9,8 +9,8 @@ returns : tie.Need-returns
 unfolding asksLiteral
 returns c =
     λ i.
-    eqb (c .before .before .before .field .ensures i) 253
-    || (eqb (c .before .before .field2 .ensures i) 253 || (c .before .is-op3 .ensures i && eqb (c .field3 .ensures i) 253))
+    eqb (c .before .before .before .read .ensures i) 253
+    || (eqb (c .before .before .read2 .ensures i) 253 || (c .before .is-op3 .ensures i && eqb (c .read3 .ensures i) 253))
 
 pub asks-literal-spec : {M : Type 1} → statement M
 asks-literal-spec =

@@ -4,7 +4,7 @@ use mathlib.Core.Path.{_∙_}
 use Prim.Native.Nat.{_-_}
 use native.Mathlib.Omega.{arith}
 use Rattle.grants.proofs.OfGrants.{locked-most}
-use Rattle.screens.specs.Gaps.{byRow, widthsOf}
+use Rattle.screens.specs.Code.{byRow, widthsOf}
 use Rattle.screens.proofs.gap_widths.Statement.{statement}
 use Rattle.screens.proofs.gap_widths.Tie as tie
 

@@ -1,6 +1,6 @@
 -- `screens::in_gap` meets its contract. Assumes nothing.
 use borrow.Author.Needs.{needs}
-use Rattle.screens.specs.Gaps.{inGap}
+use Rattle.screens.specs.Code.{inGap}
 use Rattle.screens.proofs.in_gap.Statement.{statement}
 use Rattle.screens.proofs.in_gap.Tie as tie
 

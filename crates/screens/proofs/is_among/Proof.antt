@@ -3,7 +3,7 @@ use borrow.Author.Needs.{needs}
 use mathlib.Core.Path.{ap}
 use Prim.Native.Nat.{ℕ}
 use lib.Dec.{ltb}
-use Rattle.screens.specs.Gaps.{isAmong}
+use Rattle.screens.specs.Code.{isAmong}
 use Rattle.screens.proofs.OfGaps.{wrapped}
 use Rattle.screens.proofs.is_among.Statement.{statement}
 use Rattle.screens.proofs.is_among.Tie as tie

@@ -17,7 +17,7 @@ returns-2 c =
     let a = asked .before .before .before .args in
     wrong-there (now (a .starts)) (now (a .widths)) (a .taken) (a .class) (a .unit) (a .low) (a .high)
     (sym (asked .before .before .breaks-alone .ensures) ∙ asked .before .if1 .left) (asked .is-taken .ensures)
-    (c .before .field .ensures) (c .is-bad-unit .ensures)
+    (c .before .read .ensures) (c .is-bad-unit .ensures)
 
 pub is-wrong-spec : {M : Type 1} → statement M
 is-wrong-spec =

@@ -59,7 +59,7 @@ mul-low c =
     let start = low .before .before .before .before .before in
     let a = start .args in
     let f = frame (start .pre) (search needs) (low .low-word .ensures) in
-    omega (arith, f .0, f .1, c .before .before .before .before .most-instructions .ensures, c .loop-test .taken)
+    omega (arith, f .0, f .1, c .before .before .before .before .smaller .ensures, c .loop-test .taken)
 
 add-low : tie.Need-add-low Inv-loop μ-loop
 add-low c =
@@ -67,7 +67,7 @@ add-low c =
     let start = low .before .before .before .before .before in
     let a = start .args in
     let f = frame (start .pre) (search needs) (low .low-word .ensures) in
-    omega (arith, f .0, f .1, c .before .before .before .before .most-instructions .ensures, c .loop-test .taken)
+    omega (arith, f .0, f .1, c .before .before .before .before .smaller .ensures, c .loop-test .taken)
 
 mul-low-2 : tie.Need-mul-low-2 Inv-loop μ-loop
 mul-low-2 c =
@@ -75,7 +75,7 @@ mul-low-2 c =
     let start = low .before .before .before .before .before in
     let a = start .args in
     let f = frame (start .pre) (search needs) (low .low-word .ensures) in
-    omega (arith, f .0, f .1, c .before .before .before .before .most-instructions .ensures, c .loop-test .taken)
+    omega (arith, f .0, f .1, c .before .before .before .before .smaller .ensures, c .loop-test .taken)
 
 shared-slice-read-low : tie.Need-shared-slice-read-low Inv-loop μ-loop
 shared-slice-read-low c =
@@ -83,7 +83,7 @@ shared-slice-read-low c =
     let start = low .before .before .before .before .before in
     let a = start .args in
     let f = frame (start .pre) (search needs) (low .low-word .ensures) in
-    omega (arith, f .0, f .1, c .before .before .before .before .before .most-instructions .ensures, c .before .loop-test .taken)
+    omega (arith, f .0, f .1, c .before .before .before .before .before .smaller .ensures, c .before .loop-test .taken)
 
 mul-high : tie.Need-mul-high Inv-loop μ-loop
 mul-high c =
@@ -91,7 +91,7 @@ mul-high c =
     let start = low .before .before .before .before .before in
     let a = start .args in
     let f = frame (start .pre) (search needs) (low .low-word .ensures) in
-    omega (arith, f .0, f .1, c .before .before .before .before .before .most-instructions .ensures, c .before .loop-test .taken)
+    omega (arith, f .0, f .1, c .before .before .before .before .before .smaller .ensures, c .before .loop-test .taken)
 
 add-high : tie.Need-add-high Inv-loop μ-loop
 add-high c =
@@ -99,7 +99,7 @@ add-high c =
     let start = low .before .before .before .before .before in
     let a = start .args in
     let f = frame (start .pre) (search needs) (low .low-word .ensures) in
-    omega (arith, f .0, f .1, c .before .before .before .before .before .most-instructions .ensures, c .before .loop-test .taken)
+    omega (arith, f .0, f .1, c .before .before .before .before .before .smaller .ensures, c .before .loop-test .taken)
 
 add-high-2 : tie.Need-add-high-2 Inv-loop μ-loop
 add-high-2 c =
@@ -107,7 +107,7 @@ add-high-2 c =
     let start = low .before .before .before .before .before in
     let a = start .args in
     let f = frame (start .pre) (search needs) (low .low-word .ensures) in
-    omega (arith, f .0, f .1, c .before .before .before .before .before .most-instructions .ensures, c .before .loop-test .taken)
+    omega (arith, f .0, f .1, c .before .before .before .before .before .smaller .ensures, c .before .loop-test .taken)
 
 mul-high-2 : tie.Need-mul-high-2 Inv-loop μ-loop
 mul-high-2 c =
@@ -115,7 +115,7 @@ mul-high-2 c =
     let start = low .before .before .before .before .before in
     let a = start .args in
     let f = frame (start .pre) (search needs) (low .low-word .ensures) in
-    omega (arith, f .0, f .1, c .before .before .before .before .before .most-instructions .ensures, c .before .loop-test .taken)
+    omega (arith, f .0, f .1, c .before .before .before .before .before .smaller .ensures, c .before .loop-test .taken)
 
 shared-slice-read-high : tie.Need-shared-slice-read-high Inv-loop μ-loop
 shared-slice-read-high c =
@@ -123,7 +123,7 @@ shared-slice-read-high c =
     let start = low .before .before .before .before .before in
     let a = start .args in
     let f = frame (start .pre) (search needs) (low .low-word .ensures) in
-    omega (arith, f .0, f .1, c .before .before .before .before .before .before .most-instructions .ensures, c .before .before .loop-test .taken)
+    omega (arith, f .0, f .1, c .before .before .before .before .before .before .smaller .ensures, c .before .before .loop-test .taken)
 
 returns-2 : tie.Need-returns-2 Inv-loop μ-loop
 returns-2 c =
@@ -131,55 +131,73 @@ returns-2 c =
     screening-not (now (a .words)) (a .at) (a .left) (now (a .starts)) (now (a .widths)) (a .pixel) (c .again2 .ensures)
 
 add-j : tie.Need-add-j Inv-loop μ-loop
-add-j c = omega (arith, c .before .before .before .before .before .before .before .before .before .before .before .before .before .before .before .most-instructions .ensures, c .before .before .before .before .before .before .before .before .before .before .before .loop-test .taken)
+add-j c =
+    let inside = c .before .before .before .before .before .before .before .before .before in
+    omega (arith, inside .before .before .before .before .smaller .ensures, inside .loop-test .taken)
 
 close-requires : tie.Need-close-requires Inv-loop μ-loop
-close-requires c κs = omega (arith, c .before .before .before .before .before .before .before .before .before .before .before .before .before .before .before .before .before .most-instructions .ensures, c .before .before .before .before .before .before .before .before .before .before .before .before .before .loop-test .taken)
+close-requires c κs =
+    let inside = c .before .before .before .before .before .before .before .before .before .before .before in
+    omega (arith, inside .before .before .before .before .smaller .ensures, inside .loop-test .taken)
 
 returns-3 : tie.Need-returns-3 Inv-loop μ-loop
 returns-3 c =
-    let low = c .before .before .before .before .before .before .before .before .before .before .before .before .before .before .before .before .before .before .before .before in
+    let occupied = c .before .before .before in
+    let issues = occupied .before .before in
+    let wrong = issues .before .before in
+    let class = wrong .before .before in
+    let inside = class .before .before .before in
+    let loop = inside .before .loop in
+    let most = inside .before .before .before .before in
+    let low = most .before .before in
     let start = low .before .before .before .before .before in
     let a = start .args in
     let f = frame (start .pre) (search needs) (low .low-word .ensures) in
-    let j = c .before .before .before .before .before .before .before .before .before .before .before .before .before .before .before .loop .j in
-    screening-last (now (a .words)) (a .at) (a .left) (now (a .starts)) (now (a .widths)) (c .before .before .before .before .before .before .before .before .before .before .before .before .before .before .before .loop .inv (a .at) (f .0))
-    (omega (arith, c .before .before .before .before .before .before .before .before .before .before .before .before .before .before .before .before .before .before .most-instructions .ensures, c .before .before .before .before .before .before .before .before .before .before .before .before .before .before .loop-test .taken))
-    (omega (arith, c .before .before .before .before .before .before .before .before .before .before .before .before .before .before .before .before .before .before .most-instructions .ensures, c .before .before .before .before .before .before .before .before .before .before .before .before .before .before .loop-test .taken))
-    (low-there (now (a .words)) (a .at) (f .0) j) (high-there (now (a .words)) (a .at) (f .0) j)
-    (c .before .before .before .before .before .before .before .before .before .before .before .class-of .ensures)
-    (c .before .before .before .before .before .before .before .before .before .before .unit-of .ensures)
-    (c .before .before .before .before .before .before .before .before .before .is-wrong .ensures)
-    (c .before .before .before .before .before .before .before .before .if2 .left)
-    (c .before .before .before .before .before .before .before .has-relative .ensures)
-    (c .before .before .before .before .before .before .is-uneven .ensures)
-    (c .before .before .before .before .before .next-issues .ensures)
-    (c .before .before .before .before .more-literals .ensures)
-    (c .before .before .before .occupy .ensures)
-    (c .before .before .field .ensures)
-    (c .before .if3 .taken) (a .pixel) (c .close .ensures)
+    screening-last (now (a .words)) (a .at) (a .left) (now (a .starts)) (now (a .widths)) (loop .inv (a .at) (f .0))
+    (omega (arith, most .smaller .ensures, inside .loop-test .taken))
+    (omega (arith, most .smaller .ensures, inside .loop-test .taken))
+    (low-there (now (a .words)) (a .at) (f .0) (loop .j))
+    (high-there (now (a .words)) (a .at) (f .0) (loop .j))
+    (class .class-of .ensures)
+    (wrong .before .unit-of .ensures)
+    (wrong .is-wrong .ensures)
+    (issues .before .if2 .left)
+    (issues .more-issues .ensures)
+    (occupied .before .more-literals .ensures)
+    (occupied .occupy .ensures)
+    (c .before .before .read .ensures)
+    (c .before .if3 .taken)
+    (a .pixel)
+    (c .close .ensures)
 
 loop-less : tie.Need-loop-less Inv-loop μ-loop
-loop-less c = omega (arith, c .before .before .before .before .before .before .before .before .before .before .before .before .before .before .before .before .before .most-instructions .ensures, c .before .before .before .before .before .before .before .before .before .before .before .before .before .loop-test .taken)
+loop-less c =
+    let inside = c .before .before .before .before .before .before .before .before .before .before .before in
+    omega (arith, inside .before .before .before .before .smaller .ensures, inside .loop-test .taken)
 
 loop-again : tie.Need-loop-again Inv-loop μ-loop
 loop-again c at e =
-    let a = c .before .before .before .before .before .before .before .before .before .before .before .before .before .before .before .before .before .before .before .before .before .before .before .before .args in
-    let j = c .before .before .before .before .before .before .before .before .before .before .before .before .before .before .loop .j in
-    screening-next (now (a .words)) at (a .left) (now (a .starts)) (now (a .widths)) (c .before .before .before .before .before .before .before .before .before .before .before .before .before .before .loop .inv at e)
-    (omega (arith, c .before .before .before .before .before .before .before .before .before .before .before .before .before .before .before .before .before .most-instructions .ensures, c .before .before .before .before .before .before .before .before .before .before .before .before .before .loop-test .taken))
-    (omega (arith, c .before .before .before .before .before .before .before .before .before .before .before .before .before .before .before .before .before .most-instructions .ensures, c .before .before .before .before .before .before .before .before .before .before .before .before .before .loop-test .taken))
-    (low-there (now (a .words)) at e j) (high-there (now (a .words)) at e j)
-    (c .before .before .before .before .before .before .before .before .before .before .class-of .ensures)
-    (c .before .before .before .before .before .before .before .before .before .unit-of .ensures)
-    (c .before .before .before .before .before .before .before .before .is-wrong .ensures)
-    (c .before .before .before .before .before .before .before .if2 .left)
-    (c .before .before .before .before .before .before .has-relative .ensures)
-    (c .before .before .before .before .before .is-uneven .ensures)
-    (c .before .before .before .before .next-issues .ensures)
-    (c .before .before .before .more-literals .ensures)
-    (c .before .before .occupy .ensures)
-    (c .before .field .ensures)
+    let occupied = c .before .before in
+    let issues = occupied .before .before in
+    let wrong = issues .before .before in
+    let class = wrong .before .before in
+    let inside = class .before .before .before in
+    let loop = inside .before .loop in
+    let most = inside .before .before .before .before in
+    let a = most .before .before .before .before .before .before .before .args in
+    screening-next (now (a .words)) at (a .left) (now (a .starts)) (now (a .widths)) (loop .inv at e)
+    (omega (arith, most .smaller .ensures, inside .loop-test .taken))
+    (omega (arith, most .smaller .ensures, inside .loop-test .taken))
+    (low-there (now (a .words)) at e (loop .j))
+    (high-there (now (a .words)) at e (loop .j))
+    (class .class-of .ensures)
+    (wrong .before .unit-of .ensures)
+    (wrong .is-wrong .ensures)
+    (issues .before .if2 .left)
+    (issues .more-issues .ensures)
+    (occupied .before .more-literals .ensures)
+    (occupied .occupy .ensures)
+    (c .before .read .ensures)
     (c .if3 .left)
 
 returns-4 : tie.Need-returns-4 Inv-loop μ-loop
@@ -218,8 +236,6 @@ screen-group-spec =
     (λ c κs. tt)
     (λ c κs. tt)
     returns-2
-    (λ c κs. tt)
-    (λ c κs. tt)
     (λ c κs. tt)
     (λ c κs. tt)
     (λ c κs. tt)

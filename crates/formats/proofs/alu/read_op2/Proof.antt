@@ -6,18 +6,18 @@ returns : tie.Need-returns
 returns c =
     λ i.
     record {
-      «src0_abs» = c .before .before .before .before .before .before .before .before .before .before .before .field .ensures i;
-      «src1_abs» = c .before .before .before .before .before .before .before .before .before .before .field2 .ensures i;
-      «update_execute_mask» = c .before .before .before .before .before .before .before .before .before .field3 .ensures i;
-      «update_pred» = c .before .before .before .before .before .before .before .before .field4 .ensures i;
-      «write_mask» = c .before .before .before .before .before .before .before .field5 .ensures i;
-      omod = c .before .before .before .before .before .before .field6 .ensures i;
-      «alu_inst» = c .before .before .before .before .before .field7 .ensures i;
-      «bank_swizzle» = c .before .before .before .before .field8 .ensures i;
-      «dst_gpr» = c .before .before .before .field9 .ensures i;
-      «dst_rel» = c .before .before .field10 .ensures i;
-      «dst_chan» = c .before .field11 .ensures i;
-      clamp = c .field12 .ensures i;
+      «src0_abs» = c .before .before .before .before .before .before .before .before .before .before .before .read .ensures i;
+      «src1_abs» = c .before .before .before .before .before .before .before .before .before .before .read2 .ensures i;
+      «update_execute_mask» = c .before .before .before .before .before .before .before .before .before .read3 .ensures i;
+      «update_pred» = c .before .before .before .before .before .before .before .before .read4 .ensures i;
+      «write_mask» = c .before .before .before .before .before .before .before .read5 .ensures i;
+      omod = c .before .before .before .before .before .before .read6 .ensures i;
+      «alu_inst» = c .before .before .before .before .before .read7 .ensures i;
+      «bank_swizzle» = c .before .before .before .before .read8 .ensures i;
+      «dst_gpr» = c .before .before .before .read9 .ensures i;
+      «dst_rel» = c .before .before .read10 .ensures i;
+      «dst_chan» = c .before .read11 .ensures i;
+      clamp = c .read12 .ensures i;
     }
 
 pub read-op2-spec : {M : Type 1} → statement M

@@ -6,17 +6,17 @@ returns : tie.Need-returns
 returns c =
     λ i.
     record {
-      «src0_sel» = c .before .before .before .before .before .before .before .before .before .before .field .ensures i;
-      «src0_rel» = c .before .before .before .before .before .before .before .before .before .field2 .ensures i;
-      «src0_chan» = c .before .before .before .before .before .before .before .before .field3 .ensures i;
-      «src0_neg» = c .before .before .before .before .before .before .before .field4 .ensures i;
-      «src1_sel» = c .before .before .before .before .before .before .field5 .ensures i;
-      «src1_rel» = c .before .before .before .before .before .field6 .ensures i;
-      «src1_chan» = c .before .before .before .before .field7 .ensures i;
-      «src1_neg» = c .before .before .before .field8 .ensures i;
-      «index_mode» = c .before .before .field9 .ensures i;
-      «pred_sel» = c .before .field10 .ensures i;
-      last = c .field11 .ensures i;
+      «src0_sel» = c .before .before .before .before .before .before .before .before .before .before .read .ensures i;
+      «src0_rel» = c .before .before .before .before .before .before .before .before .before .read2 .ensures i;
+      «src0_chan» = c .before .before .before .before .before .before .before .before .read3 .ensures i;
+      «src0_neg» = c .before .before .before .before .before .before .before .read4 .ensures i;
+      «src1_sel» = c .before .before .before .before .before .before .read5 .ensures i;
+      «src1_rel» = c .before .before .before .before .before .read6 .ensures i;
+      «src1_chan» = c .before .before .before .before .read7 .ensures i;
+      «src1_neg» = c .before .before .before .read8 .ensures i;
+      «index_mode» = c .before .before .read9 .ensures i;
+      «pred_sel» = c .before .read10 .ensures i;
+      last = c .read11 .ensures i;
     }
 
 pub read-word0-spec : {M : Type 1} → statement M

@@ -7,7 +7,7 @@ returns : tie.Need-returns
 returns c =
     λ i.
     record {
-      addr = record { 0 = c .field .ensures i };
+      addr = record { 0 = c .read .ensures i };
     }
 
 pub read-word0-spec : {M : Type 1} → statement M

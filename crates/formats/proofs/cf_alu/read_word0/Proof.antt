@@ -7,10 +7,10 @@ returns : tie.Need-returns
 returns c =
     λ i.
     record {
-      addr = record { 0 = c .before .before .before .field .ensures i };
-      «kcache_bank0» = c .before .before .field2 .ensures i;
-      «kcache_bank1» = c .before .field3 .ensures i;
-      «kcache_mode0» = c .field4 .ensures i;
+      addr = record { 0 = c .before .before .before .read .ensures i };
+      «kcache_bank0» = c .before .before .read2 .ensures i;
+      «kcache_bank1» = c .before .read3 .ensures i;
+      «kcache_mode0» = c .read4 .ensures i;
     }
 
 pub read-word0-spec : {M : Type 1} → statement M

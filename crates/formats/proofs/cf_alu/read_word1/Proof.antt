@@ -7,14 +7,14 @@ returns : tie.Need-returns
 returns c =
     λ i.
     record {
-      «kcache_mode1» = c .before .before .before .before .before .before .before .field .ensures i;
-      «kcache_addr0» = c .before .before .before .before .before .before .field2 .ensures i;
-      «kcache_addr1» = c .before .before .before .before .before .field3 .ensures i;
-      count = record { 0 = c .before .before .before .before .field4 .ensures i };
-      «alt_const» = c .before .before .before .field5 .ensures i;
-      «cf_inst» = c .before .before .field6 .ensures i;
-      «whole_quad_mode» = c .before .field7 .ensures i;
-      barrier = c .field8 .ensures i;
+      «kcache_mode1» = c .before .before .before .before .before .before .before .read .ensures i;
+      «kcache_addr0» = c .before .before .before .before .before .before .read2 .ensures i;
+      «kcache_addr1» = c .before .before .before .before .before .read3 .ensures i;
+      count = record { 0 = c .before .before .before .before .read4 .ensures i };
+      «alt_const» = c .before .before .before .read5 .ensures i;
+      «cf_inst» = c .before .before .read6 .ensures i;
+      «whole_quad_mode» = c .before .read7 .ensures i;
+      barrier = c .read8 .ensures i;
     }
 
 pub read-word1-spec : {M : Type 1} → statement M

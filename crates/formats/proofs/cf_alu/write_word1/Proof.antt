@@ -1,10 +1,11 @@
 -- `formats::cf_alu::write_word1` meets its contract: joining the placed fields packs them. Assumes nothing.
-use borrow.Author.Needs.{needs}
-use mathlib.Core.Path.{refl, _∙_}
+use Prim.Native.Nat.{ℕ}
+use mathlib.Core.Path.{refl, ap, _∙_}
 use lib.Bits.{bitOr}
-use Rattle.bits.proofs.OfRows.{joined-word}
-use Rattle.formats.specs.CfAlu.{word1Table, word1Values}
+use Rattle.bits.specs.Tables.{placeOf}
 use Rattle.formats.proofs.Places.{place-cut}
+use Rattle.bits.proofs.OfTables.{joined-word}
+use Rattle.formats.specs.CfAlu.{word1Table, word1Values}
 use Rattle.formats.proofs.cf_alu.write_word1.Statement.{statement}
 use Rattle.formats.proofs.cf_alu.write_word1.Tie as tie
 
@@ -12,7 +13,7 @@ returns : tie.Need-returns
 unfolding word1Table
 returns c =
     let r = c .before .before .before .before .before .before .before .before .before .args .r in
-    (λ i. bitOr (bitOr (bitOr (bitOr (bitOr (bitOr (bitOr ((c .before .before .before .before .before .before .before .before .place .ensures) i) ((c .before .before .before .before .before .before .before .place2 .ensures) i)) ((c .before .before .before .before .before .before .place3 .ensures) i)) ((c .before .before .before .before .place4 .ensures ∙ place-cut (r .count .0) 18 7 25 refl) i)) ((c .before .before .before .place5 .ensures) i)) ((c .before .before .place6 .ensures) i)) ((c .before .place7 .ensures) i)) ((c .place8 .ensures) i))
+    (λ i. bitOr (bitOr (bitOr (bitOr (bitOr (bitOr (bitOr ((c .before .before .before .before .before .before .before .before .put .ensures) i) ((c .before .before .before .before .before .before .before .put2 .ensures) i)) ((c .before .before .before .before .before .before .put3 .ensures) i)) ((c .before .before .before .before .put4 .ensures ∙ ap (λ (n : ℕ). placeOf n 18 7) (c .before .before .before .before .before .low-half .ensures) ∙ place-cut (r .count .0) 18 7 25 refl) i)) ((c .before .before .before .put5 .ensures) i)) ((c .before .before .put6 .ensures) i)) ((c .before .put7 .ensures) i)) ((c .put8 .ensures) i))
     ∙ joined-word word1Table refl (word1Values r)
 
 pub write-word1-spec : {M : Type 1} → statement M
@@ -22,7 +23,7 @@ write-word1-spec =
     (λ c κs. tt)
     (λ c κs. tt)
     (λ c κs. tt)
-    (λ c. search needs)
+    (λ c κs. tt)
     (λ c κs. tt)
     (λ c κs. tt)
     (λ c κs. tt)

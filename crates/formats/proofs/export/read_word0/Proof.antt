@@ -6,12 +6,12 @@ returns : tie.Need-returns
 returns c =
     λ i.
     record {
-      «array_base» = c .before .before .before .before .before .field .ensures i;
-      «export_type» = c .before .before .before .before .field2 .ensures i;
-      «rw_gpr» = c .before .before .before .field3 .ensures i;
-      «rw_rel» = c .before .before .field4 .ensures i;
-      «index_gpr» = c .before .field5 .ensures i;
-      «elem_size» = c .field6 .ensures i;
+      «array_base» = c .before .before .before .before .before .read .ensures i;
+      «export_type» = c .before .before .before .before .read2 .ensures i;
+      «rw_gpr» = c .before .before .before .read3 .ensures i;
+      «rw_rel» = c .before .before .read4 .ensures i;
+      «index_gpr» = c .before .read5 .ensures i;
+      «elem_size» = c .read6 .ensures i;
     }
 
 pub read-word0-spec : {M : Type 1} → statement M

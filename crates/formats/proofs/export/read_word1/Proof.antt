@@ -6,17 +6,17 @@ returns : tie.Need-returns
 returns c =
     λ i.
     record {
-      «sel_x» = c .before .before .before .before .before .before .before .before .before .before .field .ensures i;
-      «sel_y» = c .before .before .before .before .before .before .before .before .before .field2 .ensures i;
-      «sel_z» = c .before .before .before .before .before .before .before .before .field3 .ensures i;
-      «sel_w» = c .before .before .before .before .before .before .before .field4 .ensures i;
-      rest = c .before .before .before .before .before .before .field5 .ensures i;
-      «burst_count» = c .before .before .before .before .before .field6 .ensures i;
-      «end_of_program» = c .before .before .before .before .field7 .ensures i;
-      «valid_pixel_mode» = c .before .before .before .field8 .ensures i;
-      «cf_inst» = c .before .before .field9 .ensures i;
-      «whole_quad_mode» = c .before .field10 .ensures i;
-      barrier = c .field11 .ensures i;
+      «sel_x» = c .before .before .before .before .before .before .before .before .before .before .read .ensures i;
+      «sel_y» = c .before .before .before .before .before .before .before .before .before .read2 .ensures i;
+      «sel_z» = c .before .before .before .before .before .before .before .before .read3 .ensures i;
+      «sel_w» = c .before .before .before .before .before .before .before .read4 .ensures i;
+      rest = c .before .before .before .before .before .before .read5 .ensures i;
+      «burst_count» = c .before .before .before .before .before .read6 .ensures i;
+      «end_of_program» = c .before .before .before .before .read7 .ensures i;
+      «valid_pixel_mode» = c .before .before .before .read8 .ensures i;
+      «cf_inst» = c .before .before .read9 .ensures i;
+      «whole_quad_mode» = c .before .read10 .ensures i;
+      barrier = c .read11 .ensures i;
     }
 
 pub read-word1-spec : {M : Type 1} → statement M

@@ -1,7 +1,7 @@
 -- `formats::export::write_word1` meets its contract: joining the placed fields packs them. Assumes nothing.
 use mathlib.Core.Path.{refl, _∙_}
 use lib.Bits.{bitOr}
-use Rattle.bits.proofs.OfRows.{joined-word}
+use Rattle.bits.proofs.OfTables.{joined-word}
 use Rattle.formats.specs.Export.{word1Table, word1Values}
 use Rattle.formats.proofs.export.write_word1.Statement.{statement}
 use Rattle.formats.proofs.export.write_word1.Tie as tie
@@ -10,7 +10,7 @@ returns : tie.Need-returns
 unfolding word1Table
 returns c =
     let r = c .before .before .before .before .before .before .before .before .before .before .before .args .r in
-    (λ i. bitOr (bitOr (bitOr (bitOr (bitOr (bitOr (bitOr (bitOr (bitOr (bitOr ((c .before .before .before .before .before .before .before .before .before .before .place .ensures) i) ((c .before .before .before .before .before .before .before .before .before .place2 .ensures) i)) ((c .before .before .before .before .before .before .before .before .place3 .ensures) i)) ((c .before .before .before .before .before .before .before .place4 .ensures) i)) ((c .before .before .before .before .before .before .place5 .ensures) i)) ((c .before .before .before .before .before .place6 .ensures) i)) ((c .before .before .before .before .place7 .ensures) i)) ((c .before .before .before .place8 .ensures) i)) ((c .before .before .place9 .ensures) i)) ((c .before .place10 .ensures) i)) ((c .place11 .ensures) i))
+    (λ i. bitOr (bitOr (bitOr (bitOr (bitOr (bitOr (bitOr (bitOr (bitOr (bitOr ((c .before .before .before .before .before .before .before .before .before .before .put .ensures) i) ((c .before .before .before .before .before .before .before .before .before .put2 .ensures) i)) ((c .before .before .before .before .before .before .before .before .put3 .ensures) i)) ((c .before .before .before .before .before .before .before .put4 .ensures) i)) ((c .before .before .before .before .before .before .put5 .ensures) i)) ((c .before .before .before .before .before .put6 .ensures) i)) ((c .before .before .before .before .put7 .ensures) i)) ((c .before .before .before .put8 .ensures) i)) ((c .before .before .put9 .ensures) i)) ((c .before .put10 .ensures) i)) ((c .put11 .ensures) i))
     ∙ joined-word word1Table refl (word1Values r)
 
 pub write-word1-spec : {M : Type 1} → statement M

@@ -9,9 +9,9 @@ returns : tie.Need-returns
 unfolding isAlike
 returns c =
     λ i.
-    eqb (c .before .before .before .before .before .field .ensures i) (c .before .before .before .before .field2 .ensures i)
-    && (eqb (c .before .before .before .field3 .ensures i) (c .before .before .field4 .ensures i)
-    && eqb (c .before .field5 .ensures i) (c .field6 .ensures i))
+    eqb (c .before .before .before .before .before .read .ensures i) (c .before .before .before .before .read2 .ensures i)
+    && (eqb (c .before .before .before .read3 .ensures i) (c .before .before .read4 .ensures i)
+    && eqb (c .before .read5 .ensures i) (c .read6 .ensures i))
 
 pub is-alike-spec : {M : Type 1} → statement M
 is-alike-spec =

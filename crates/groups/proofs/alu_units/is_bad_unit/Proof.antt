@@ -1,7 +1,7 @@
 -- `groups::alu_units::is_bad_unit` meets its contract. Assumes nothing.
 use mathlib.Core.Bool.{_&&_, _||_}
 use lib.Dec.{eqb, ltb}
-use Rattle.groups.specs.Group.{badUnit}
+use Rattle.groups.specs.Code.{badUnit}
 use Rattle.groups.proofs.alu_units.is_bad_unit.Statement.{statement}
 use Rattle.groups.proofs.alu_units.is_bad_unit.Tie as tie
 

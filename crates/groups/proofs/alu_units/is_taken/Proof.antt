@@ -1,6 +1,6 @@
 -- `groups::alu_units::is_taken` meets its contract. Assumes nothing.
 use lib.Dec.{eqb}
-use Rattle.groups.specs.Group.{isTaken}
+use Rattle.groups.specs.Code.{isTaken}
 use Rattle.groups.proofs.alu_units.is_taken.Statement.{statement}
 use Rattle.groups.proofs.alu_units.is_taken.Tie as tie
 

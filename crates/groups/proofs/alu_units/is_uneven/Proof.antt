@@ -1,7 +1,7 @@
 -- `groups::alu_units::is_uneven` meets its contract. Assumes nothing.
 use mathlib.Core.Bool.{not, _&&_}
 use lib.Dec.{eqb, ltb}
-use Rattle.groups.specs.Group.{isUneven}
+use Rattle.groups.specs.Code.{isUneven}
 use Rattle.groups.proofs.alu_units.is_uneven.Statement.{statement}
 use Rattle.groups.proofs.alu_units.is_uneven.Tie as tie
 

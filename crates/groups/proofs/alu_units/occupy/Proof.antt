@@ -1,5 +1,5 @@
 -- `groups::alu_units::occupy` meets its contract. Assumes nothing.
-use Rattle.groups.specs.Group.{occupied}
+use Rattle.groups.specs.Code.{occupied}
 use Rattle.groups.proofs.alu_units.occupy.Statement.{statement}
 use Rattle.groups.proofs.alu_units.occupy.Tie as tie
 

@@ -1,7 +1,7 @@
 -- `groups::alu_units::taken_from` meets its contract. Assumes nothing.
 use mathlib.Core.Bool.{not}
 use lib.Dec.{eqb}
-use Rattle.groups.specs.Group.{takenFrom}
+use Rattle.groups.specs.Code.{takenFrom}
 use Rattle.groups.proofs.alu_units.taken_from.Statement.{statement}
 use Rattle.groups.proofs.alu_units.taken_from.Tie as tie
 

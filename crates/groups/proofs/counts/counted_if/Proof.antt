@@ -1,7 +1,7 @@
 -- `groups::counts::counted_if` meets its contract, variant by variant. Assumes nothing.
 use borrow.Author.Needs.{needs}
-use Rattle.groups.specs.Seen.{oneMore}
-use Rattle.groups.proofs.OfSeen.{not-counted, counted-more}
+use Rattle.groups.specs.Code.{oneMore}
+use Rattle.groups.proofs.OfCode.{not-counted, counted-more}
 use Rattle.groups.proofs.counts.counted_if.Statement.{statement}
 use Rattle.groups.proofs.counts.counted_if.Tie as tie
 

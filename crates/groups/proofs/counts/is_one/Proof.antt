@@ -1,7 +1,7 @@
 -- `groups::counts::is_one` meets its contract, variant by variant. Assumes nothing.
 use borrow.Author.Needs.{needs}
 use mathlib.Core.Path.{sym, ap}
-use Rattle.groups.specs.Seen.{isOne}
+use Rattle.groups.specs.Code.{isOne}
 use Rattle.groups.proofs.counts.is_one.Statement.{statement}
 use Rattle.groups.proofs.counts.is_one.Tie as tie
 

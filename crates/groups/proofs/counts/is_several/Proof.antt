@@ -1,7 +1,7 @@
 -- `groups::counts::is_several` meets its contract, variant by variant. Assumes nothing.
 use borrow.Author.Needs.{needs}
 use mathlib.Core.Path.{sym, ap}
-use Rattle.groups.specs.Seen.{isSeveral}
+use Rattle.groups.specs.Code.{isSeveral}
 use Rattle.groups.proofs.counts.is_several.Statement.{statement}
 use Rattle.groups.proofs.counts.is_several.Tie as tie
 

@@ -1,8 +1,8 @@
 -- `groups::counts::together` meets its contract, variant by variant. Assumes nothing.
 use borrow.Author.Needs.{needs}
 use mathlib.Core.Path.{sym, ap}
-use Rattle.groups.specs.Seen.{together}
-use Rattle.groups.proofs.OfSeen.{with-one}
+use Rattle.groups.specs.Code.{together}
+use Rattle.groups.proofs.OfCode.{with-one}
 use Rattle.groups.proofs.counts.together.Statement.{statement}
 use Rattle.groups.proofs.counts.together.Tie as tie
 

@@ -3,7 +3,7 @@
 use borrow.Author.Needs.{needs}
 use native.Mathlib.Omega.{arith}
 use lib.ListN.{length-set}
-use Rattle.report.proofs.OfDecimal.{Spelt, none-spelt, place-left, one-more-spelt, all-spelt}
+use Rattle.report.proofs.OfDigits.{Spelt, none-spelt, place-left, one-more-spelt, all-spelt}
 use Rattle.report.proofs.text.decimal.Statement.{statement}
 use Rattle.report.proofs.text.decimal.Tie as tie
 

@@ -1,8 +1,9 @@
 -- `report::text::put_number` meets its contract: key, digits and line feed follow one another. Assumes nothing.
 use borrow.Author.Needs.{needs}
 use native.Mathlib.Omega.{arith}
+use Rattle.ascii.proofs.OfDecimal.{at-most-20-digits}
 use Rattle.report.proofs.OfBuffer.{as-bytes, both-appended}
-use Rattle.report.proofs.OfDecimal.{at-most-20-digits, spelt-part}
+use Rattle.report.proofs.OfDigits.{spelt-part}
 use Rattle.report.proofs.text.put_number.Statement.{statement}
 use Rattle.report.proofs.text.put_number.Tie as tie
 

@@ -1,0 +1,87 @@
+-- Decoder and encoder, by what its code tests and calls on the way to each answer. Assumes nothing.
+use mathlib.Core.Path.{_≡_, refl, sym, ap, _∙_}
+use mathlib.Core.Logic.{⊎-elim}
+use mathlib.Core.Bool.{true, false}
+use mathlib.Core.List.{List, [], _∷_}
+use Prim.Native.Nat.{ℕ, _≤_, _<_}
+use native.Mathlib.Omega.{arith}
+use lib.ListN.{length}
+use types.Run.{OneOf}
+use denote.Enum.Declared.{tagOf}
+use borrow.Author.Tests.{le-leb, lt-leb}
+use Rattle.units.specs.Units.{words}
+use Rattle.checks.specs.Verdict.{verdictNumber}
+use Rattle.microcode.specs.declared.Instruction.{Instruction}
+use Rattle.microcode.specs.declared.Decoded.{Decoded}
+use Rattle.microcode.specs.declared.Decoded.the-variants.{Outside, NotTaken, Taken}
+use Rattle.microcode.specs.declared.Encoded.{Encoded}
+use Rattle.microcode.specs.declared.Encoded.the-variants.{NoRecord, NoRoom, Done}
+use Rattle.microcode.specs.declared.Stream.{Stream}
+use Rattle.microcode.proofs.Decoded as decoded-type
+use Rattle.microcode.specs.Buffer.{decodeOf, decodedVerdict, encodeAnswer, encodeWords, encodedVerdict}
+use Rattle.codec_for_c.specs.Values.{valuesOf, rowLength, written, formOf, recordOf, roomy, isRecord, streamNumbered, rowAnswer, rowVerdict, rowAfter, decodedNumber, decodedValues, encodedFrom, encodedNumber, encodedWords}
+
+roomy-yes : (vs : List ℕ) → rowLength ≤ length vs → roomy vs ≡ true
+unfolding roomy
+roomy-yes vs h = le-leb rowLength (length vs) h
+
+roomy-no : (vs : List ℕ) → length vs < rowLength → roomy vs ≡ false
+unfolding roomy
+roomy-no vs h = lt-leb rowLength (length vs) h
+
+-- ---- decoding
+
+module _ (i : Instruction) (vs : List ℕ) where
+  pub filled : (j : Instruction) (row m : List ℕ) → m ≡ written row vs → row ≡ valuesOf j → i ≡ j → m ≡ written (valuesOf i) vs
+  filled j row m e f g = e ∙ ap (λ (r : List ℕ). written r vs) (f ∙ ap valuesOf (sym g))
+
+  pub write-short : length vs < rowLength → (NoRoom ≡ rowAnswer vs) × (vs ≡ rowAfter (Taken i) vs)
+  write-short h = (rw (roomy-no vs h), rw (roomy-no vs h))
+
+  pub write-all : (m : List ℕ) → rowLength ≤ length vs → m ≡ written (valuesOf i) vs → (Done ≡ rowAnswer vs) × (m ≡ rowAfter (Taken i) vs)
+  write-all m h e = (rw (roomy-yes vs h), rw (roomy-yes vs h) e)
+
+-- where the code knows that the decoder gave no record, which has tag 2, its refusal is the answer and changes nothing
+refusal : (s : Stream) (d : Decoded) (vs : List ℕ) → OneOf (0 ∷ 1 ∷ []) (tagOf decoded-type.the-type d) → (decodedVerdict s d ≡ rowVerdict s d vs) × (vs ≡ rowAfter d vs)
+refusal s Outside vs h = (refl, refl)
+refusal s NotTaken vs h = (refl, refl)
+refusal s (Taken i) vs h = absurd (⊎-elim (λ p. omega arith) (λ p. omega arith) h)
+
+module _ (stream : ℕ) (l : List ℕ) (start : ℕ) (vs : List ℕ) (s : Stream) (d : Decoded) (e : s ≡ streamNumbered stream) (f : d ≡ decodeOf s l (words start)) where
+  answered : (a : Decoded) (n : ℕ) (m : List ℕ) → d ≡ a → n ≡ verdictNumber (rowVerdict s a vs) → m ≡ rowAfter a vs → (n ≡ decodedNumber stream l start vs) × (m ≡ decodedValues stream l start vs)
+  unfolding decodedNumber decodedValues
+  answered a n m g h p =
+      let k : a ≡ decodeOf (streamNumbered stream) l (words start) = sym g ∙ f ∙ ap (λ (t : Stream). decodeOf t l (words start)) e in
+      (h ∙ (λ j. verdictNumber (rowVerdict (e j) (k j) vs)), p ∙ ap (λ (x : Decoded). rowAfter x vs) k)
+
+  pub decode-refused : (n : ℕ) → OneOf (0 ∷ 1 ∷ []) (tagOf decoded-type.the-type d) → n ≡ verdictNumber (decodedVerdict s d) → (n ≡ decodedNumber stream l start vs) × (vs ≡ decodedValues stream l start vs)
+  decode-refused n g h =
+      let k = refusal s d vs g in
+      answered d n vs refl (h ∙ ap verdictNumber (k .0)) (k .1)
+
+  pub decode-taken : (i : Instruction) (x : Encoded) (n : ℕ) (m : List ℕ) → d ≡ Taken i → x ≡ rowAnswer vs → m ≡ rowAfter (Taken i) vs → n ≡ verdictNumber (encodedVerdict x) → (n ≡ decodedNumber stream l start vs) × (m ≡ decodedValues stream l start vs)
+  decode-taken i x n m g h p q = answered (Taken i) n m g (q ∙ ap (λ (y : Encoded). verdictNumber (encodedVerdict y)) h) p
+
+-- ---- encoding
+
+module _ (vs l : List ℕ) (start : ℕ) where
+  no-record : (n : ℕ) → isRecord vs ≡ false → n ≡ verdictNumber (encodedVerdict NoRecord) → (n ≡ encodedNumber vs l start) × (l ≡ encodedWords vs l start)
+  unfolding encodedFrom encodedWords
+  no-record n h e = (rw h e, rw h)
+
+  pub encode-short : (n : ℕ) → length vs < rowLength → n ≡ verdictNumber (encodedVerdict NoRecord) → (n ≡ encodedNumber vs l start) × (l ≡ encodedWords vs l start)
+  unfolding isRecord
+  encode-short n h e = no-record n (rw (roomy-no vs h)) e
+
+  pub encode-other-form : (n : ℕ) → rowLength ≤ length vs → 4 < formOf vs → n ≡ verdictNumber (encodedVerdict NoRecord) → (n ≡ encodedNumber vs l start) × (l ≡ encodedWords vs l start)
+  unfolding isRecord
+  encode-other-form n h k e = no-record n (rw (roomy-yes vs h) (lt-leb (formOf vs) 4 k)) e
+
+  pub encode-record : (i : Instruction) (x : Encoded) (n : ℕ) (m : List ℕ) → rowLength ≤ length vs → formOf vs ≤ 4 → i ≡ recordOf vs → x ≡ encodeAnswer i l (words start) → m ≡ encodeWords i l (words start) → n ≡ verdictNumber (encodedVerdict x) → (n ≡ encodedNumber vs l start) × (m ≡ encodedWords vs l start)
+  unfolding isRecord encodedFrom encodedWords
+  encode-record i x n m h k e f g q =
+      let b = roomy-yes vs h in
+      let c = le-leb (formOf vs) 4 k in (
+        rw (b, c) (q ∙ ap (λ (z : Encoded). verdictNumber (encodedVerdict z)) (f ∙ ap (λ (j : Instruction). encodeAnswer j l (words start)) e)),
+        rw (b, c) (g ∙ ap (λ (j : Instruction). encodeWords j l (words start)) e),
+      )

@@ -1,0 +1,120 @@
+// The codec for C and Rust to link, by `rt staticlib values`: an instruction as a row of 32-bit values, its form and then its fields in
+// AMD's order (specs/Values.antt).
+mod records;
+mod rows;
+
+use microcode::Decoded;
+use microcode::Encoded;
+use microcode::Instruction;
+use microcode::Stream;
+use units::Words;
+ghost use mathlib.Core.Path.{_≡_};
+ghost use Prim.Native.Nat.{ℕ, _≤_};
+ghost use lib.ListN.{length};
+ghost use Rattle.checks.specs.Verdict.{verdictNumber};
+ghost use Rattle.microcode.specs.declared.Decoded.the-variants as decoded;
+ghost use Rattle.microcode.specs.Pair.{streamOf};
+ghost use Rattle.microcode.specs.Buffer.{decodedVerdict, encodedVerdict};
+ghost use Rattle.codec_for_c.specs.Values.{rowLength, streamNumbered, rowAnswer, rowAfter, decodedNumber, decodedValues, written, valuesOf, recordOf, encodedNumber, encodedWords, WordsAgain, RowAgain};
+
+// A row has as many elements or more, whatever its form.
+const ROW: usize = 32;
+
+// The pair at word `start`, control flow where `stream` is 0 and ALU otherwise, as values. 2, 4 and 11 are the decoder's; 20 where `values`
+// has fewer than 32 elements. After a 0 the row encodes to the same words again.
+#[no_mangle]
+pub extern "C" fn zlatomruk_decode(
+    words: &[u32],
+    start: usize,
+    stream: u32,
+    values: &mut [u32],
+) -> u32
+    ensures { λ r. ⌜ r ≡ decodedNumber stream (now (words .entry)) start (now (values .entry)) ⌝ }
+    ensures { λ r. ⌜ now (values .exit) ≡ decodedValues stream (now (words .entry)) start (now (values .entry)) ⌝ }
+    ensures { λ r. ⌜ (r ≡ 0 → WordsAgain (now (values .exit)) (now (words .entry)) start) ⌝ }
+{
+    let s = stream_numbered(stream);
+    let d = microcode::decode(words, Words(start), s);
+    let Decoded::Taken(i) = d else {
+        return decoded_number(s, d);
+    };
+    encoded_number(write(i, values))
+}
+
+// The record that the values hold, as two words at word `start`. 21 where it can't be encoded, or 32 elements or the form are missing;
+// 20 where the words have no room. After a 0 the words decode, in the stream of the row's form, to the same row again.
+#[no_mangle]
+pub extern "C" fn zlatomruk_encode(values: &[u32], words: &mut [u32], start: usize) -> u32
+    ensures { λ r. ⌜ r ≡ encodedNumber (now (values .entry)) (now (words .entry)) start ⌝ }
+    ensures { λ r. ⌜ now (words .exit) ≡ encodedWords (now (values .entry)) (now (words .entry)) start ⌝ }
+    ensures { λ r. ⌜ (r ≡ 0 → (stream : ℕ) → streamNumbered stream ≡ streamOf (recordOf (now (values .entry))) → RowAgain stream (now (words .exit)) start (now (values .entry))) ⌝ }
+{
+    if values.len() < ROW {
+        return encoded_number(Encoded::NoRecord);
+    }
+    if 4 < values[0] {
+        return encoded_number(Encoded::NoRecord);
+    }
+    let i = records::record_of(values);
+    encoded_number(microcode::encode(i, words, Words(start)))
+}
+
+fn stream_numbered(n: u32) -> Stream
+    ensures { λ r. ⌜ r ≡ streamNumbered n ⌝ }
+{
+    if n == 0 {
+        return Stream::ControlFlow;
+    }
+    Stream::Alu
+}
+
+// The numbers of the answers.
+fn decoded_number(s: Stream, d: Decoded) -> u32
+    ensures { λ r. ⌜ r ≡ verdictNumber (decodedVerdict s d) ⌝ }
+{
+    checks::verdict_number(microcode::decoded_verdict(s, d)) as u32
+}
+
+fn encoded_number(e: Encoded) -> u32
+    ensures { λ r. ⌜ r ≡ verdictNumber (encodedVerdict e) ⌝ }
+{
+    checks::verdict_number(microcode::encoded_verdict(e)) as u32
+}
+
+// The values of `i`, where there is room.
+fn write(i: Instruction, values: &mut [u32]) -> Encoded
+    ensures { λ r. ⌜ r ≡ rowAnswer (now (values .entry)) ⌝ }
+    ensures { λ r. ⌜ now (values .exit) ≡ rowAfter (decoded.Taken i) (now (values .entry)) ⌝ }
+{
+    let room = values.len();
+    if room < ROW {
+        return Encoded::NoRoom;
+    }
+    fill(i, values);
+    Encoded::Done
+}
+
+fn fill(i: Instruction, values: &mut [u32])
+    requires { ⌜ rowLength ≤ length (now values) ⌝ }
+    ensures { λ r. ⌜ now (values .exit) ≡ written (valuesOf i) (now (values .entry)) ⌝ }
+{
+    match i {
+        Instruction::CfAlu(a, b) => put(&rows::cf_alu_row(a, b), values),
+        Instruction::Cf(a, b) => put(&rows::cf_row(a, b), values),
+        Instruction::Export(a, b) => put(&rows::export_row(a, b), values),
+        Instruction::Op2(a, b) => put(&rows::op2_row(a, b), values),
+        Instruction::Op3(a, b) => put(&rows::op3_row(a, b), values),
+    }
+}
+
+// A row over the beginning of `values`.
+fn put(row: &[u32], values: &mut [u32])
+    requires { ⌜ length (now row) ≤ length (now values) ⌝ }
+    ensures { λ r. ⌜ now (values .exit) ≡ written (now (row .entry)) (now (values .entry)) ⌝ }
+{
+    let mut i = 0;
+    while i < row.len() {
+        values[i] = row[i];
+        i += 1;
+    }
+}

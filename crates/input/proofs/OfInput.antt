@@ -1,0 +1,120 @@
+-- The whole input: its length's test by division, and what each branch of the code answers. Assumes nothing.
+use mathlib.Core.Path.{_≡_, refl, ap, sym, _∙_}
+use mathlib.Core.Bool.{Bool, true, false, cond, not}
+use mathlib.Core.List.{List}
+use Prim.Native.Nat.{ℕ, _*_, _/_, _%_, _≤_}
+use native.Mathlib.Omega.{arith}
+use borrow.Author.Tests.{eq-eqb, ne-eqb, eqb-true, eqb-false, not-true, not-false}
+use lib.Dec.{eqb}
+use lib.ListN.{length, drop}
+use Rattle.laws.proofs.OfTests.{same-test}
+use Rattle.units.specs.declared.Quadwords.{Quadwords}
+use Rattle.checks.specs.declared.Verdict.{Verdict}
+use Rattle.card.specs.Card.{cardOf}
+use Rattle.card.specs.Made.{testOf}
+use Rattle.card.specs.declared.Build.{Build}
+use Rattle.card.specs.declared.Card.{Card}
+use Rattle.card.specs.declared.CardRead.{CardRead}
+use Rattle.card.specs.declared.CardRead.the-variants as read
+use Rattle.card.specs.declared.CardTest.{CardTest}
+use Rattle.card.specs.declared.CardTest.the-variants as test
+use Rattle.card.proofs.OfCard.{whole-length, whole-in-range, range-figures}
+use Rattle.report.specs.Report.{reportBytes}
+use Rattle.report.specs.declared.ReportBuild.{ReportBuild}
+use Rattle.report.specs.declared.ReportBuild.the-variants as report
+use Rattle.judge.specs.Judge.{judgement}
+use Rattle.judge.proofs.OfJudge as of-judge
+use Rattle.input.specs.Words.{wordsIn}
+use Rattle.input.specs.Input.{answer, shown, badLine, badLength, rightLength, byTest, packVerdict, behindCard, judgedOf, reportOf}
+use Rattle.input.specs.declared.Judged.{Judged}
+
+-- ---- the length
+
+module _ (quads : Quadwords) (bytes : ℕ) where
+  pub wrong-length : (bytes ≡ 8 * quads .0 → ⊥) → false ≡ rightLength quads bytes
+  wrong-length h = sym (ne-eqb bytes (8 * quads .0) h)
+
+  pub by-eighths : bytes % 8 ≡ 0 → eqb (bytes / 8) (quads .0) ≡ rightLength quads bytes
+  by-eighths h =
+      same-test (eqb (bytes / 8) (quads .0)) (rightLength quads bytes)
+      (λ e. eq-eqb (bytes / 8) (quads .0) (omega (arith, eqb-true bytes (8 * quads .0) e)))
+      (λ e. ne-eqb (bytes / 8) (quads .0) (λ k. eqb-false bytes (8 * quads .0) e (omega arith)))
+
+-- ---- the pack
+
+-- 1: the card's first line out of range
+pub bad-card : (card : Card) (pack : List ℕ) {known : CardTest} {n : ℕ} {verdict : Verdict} → known ≡ testOf card
+    → known ≡ test.BadLine n → verdict ≡ badLine n → verdict ≡ packVerdict card pack
+unfolding packVerdict
+bad-card card pack told h v = v ∙ ap (byTest card pack) (sym h ∙ told)
+
+module _ (card : Card) (pack : List ℕ) (in-range : testOf card ≡ test.InRange) where
+  -- 2 and the judge's numbers, by the length
+  pub by-length : packVerdict card pack ≡ cond (rightLength (card .quads) (length pack)) (judgement card (wordsIn pack)) badLength
+  unfolding packVerdict
+  by-length = ap (byTest card pack) in-range
+
+  module _ {right : Bool} (e : right ≡ rightLength (card .quads) (length pack)) where
+    as-right : (t : Bool) → right ≡ t → cond t (judgement card (wordsIn pack)) badLength ≡ packVerdict card pack
+    as-right t h = ap (λ (x : Bool). cond x (judgement card (wordsIn pack)) badLength) (sym h ∙ e) ∙ sym by-length
+
+    pub bad-length : {verdict : Verdict} → not right ≡ true → verdict ≡ badLength → verdict ≡ packVerdict card pack
+    bad-length h v = v ∙ as-right false (not-true right h)
+
+    module _ (h : not right ≡ false) where
+      -- no card in range allows more than 16,384 words
+      pub few-words : length pack / 4 ≤ 16384
+      few-words =
+          let r = range-figures card in-range in
+          let l = eqb-true (length pack) (8 * card .quads .0) (sym e ∙ not-false right h) in
+          omega (arith, r .quads-most)
+
+      pub judged-verdict : {verdict : Verdict} → verdict ≡ judgement card (wordsIn pack) → verdict ≡ packVerdict card pack
+      judged-verdict v = v ∙ as-right true (not-false right h)
+
+-- every answer but 2 is the judge's own to the same card and the pack's words: 1 stands in the judge's order
+pub as-judged : (card : Card) (pack : List ℕ) → (packVerdict card pack ≡ badLength → ⊥) → packVerdict card pack ≡ judgement card (wordsIn pack)
+unfolding packVerdict
+as-judged card pack h = by-test (testOf card) refl h
+  where
+    by-right : (t : Bool) → (cond t (judgement card (wordsIn pack)) badLength ≡ badLength → ⊥)
+        → cond t (judgement card (wordsIn pack)) badLength ≡ judgement card (wordsIn pack)
+    by-right true h = refl
+    by-right false h = absurd (h refl)
+
+    by-test : (known : CardTest) → testOf card ≡ known → (byTest card pack known ≡ badLength → ⊥)
+        → byTest card pack known ≡ judgement card (wordsIn pack)
+    by-test (test.BadLine n) e h = of-judge.bad-card card (wordsIn pack) refl e refl .0
+    by-test test.InRange e h = by-right (rightLength (card .quads) (length pack)) h
+
+-- ---- the card and the pack
+
+pub shown-as-told : {build told : Build} → build ≡ told → shown told ≡ shown build
+shown-as-told e = sym (ap shown e)
+
+module _ (input : List ℕ) {known : CardRead} (told : known ≡ cardOf input) where
+  -- a line is at fault
+  pub bad-line-answer : {n : ℕ} {verdict : Verdict} → known ≡ read.BadLine n → verdict ≡ badLine n
+      → answer report.Unknown verdict ≡ judgedOf input
+  unfolding judgedOf
+  bad-line-answer h v = ap (answer report.Unknown) v ∙ ap (behindCard input) (sym h ∙ told)
+
+  -- the card is whole
+  module _ {card : Card} {taken : ℕ} (h : known ≡ read.Whole card taken) where
+    pub taken-within : taken ≤ length input
+    taken-within = whole-length input card taken (sym told ∙ h)
+
+    pub read-in-range : testOf card ≡ test.InRange
+    read-in-range = whole-in-range input card taken (sym told ∙ h)
+
+    pub whole-answer : {pack : List ℕ} {build : ReportBuild} {verdict : Verdict} → pack ≡ drop taken input
+        → build ≡ shown (card .build) → verdict ≡ packVerdict card pack → answer build verdict ≡ judgedOf input
+    unfolding judgedOf
+    whole-answer p b v =
+        (λ i. answer (b i) ((v ∙ ap (packVerdict card) p) i)) ∙ ap (behindCard input) (sym h ∙ told)
+
+-- ---- the report
+
+pub report-on : (input : List ℕ) (judged : Judged) → judged ≡ judgedOf input → reportBytes (judged .build) (judged .verdict) ≡ reportOf input
+unfolding reportOf
+report-on input judged e = ap (λ (j : Judged). reportBytes (j .build) (j .verdict)) e

@@ -1,0 +1,76 @@
+-- The whole input, a card and behind it a pack, and what is answered to it: document 01, "What the judge reads", with the numbers 1
+-- and 2 of "Numbers and what they mean". Every other number is the judge's.
+use Prim.Native.Nat.{ℕ, _*_}
+use mathlib.Core.Bool.{Bool, cond}
+use mathlib.Core.List.{List}
+use lib.Dec.{eqb}
+use lib.ListN.{length, drop}
+use Rattle.units.specs.Units.{slots}
+use Rattle.units.specs.declared.Quadwords.{Quadwords}
+use Rattle.checks.specs.declared.Place.the-variants as place
+use Rattle.checks.specs.declared.Verdict.{Verdict}
+use Rattle.checks.specs.declared.Verdict.the-variants.{Refused}
+use Rattle.card.specs.Card.{cardOf}
+use Rattle.card.specs.Made.{testOf}
+use Rattle.card.specs.declared.Build.{Build}
+use Rattle.card.specs.declared.Build.the-variants as build
+use Rattle.card.specs.declared.Card.{Card}
+use Rattle.card.specs.declared.CardRead.{CardRead}
+use Rattle.card.specs.declared.CardRead.the-variants as read
+use Rattle.card.specs.declared.CardTest.{CardTest}
+use Rattle.card.specs.declared.CardTest.the-variants as test
+use Rattle.report.specs.Report.{reportBytes}
+use Rattle.report.specs.declared.ReportBuild.{ReportBuild}
+use Rattle.report.specs.declared.ReportBuild.the-variants as report
+use Rattle.judge.specs.Judge.{judgement}
+use Rattle.input.specs.Words.{wordsIn}
+use Rattle.input.specs.declared.Judged.{Judged}
+
+-- ---- what is answered
+
+-- a build and a verdict, which the report is made of
+abbrev pub answer : ReportBuild → Verdict → Judged
+answer build verdict = record { build = build; verdict = verdict }
+
+-- the card's build as the report shows it
+abbrev pub shown : Build → ReportBuild
+shown build.Production = report.Production
+shown build.Debug = report.Debug
+
+-- 1: a card line is missing, misspelt or out of range; the place is the first such line
+abbrev pub badLine : ℕ → Verdict
+badLine n = Refused 1 (place.Line n) (slots 0)
+
+-- 2: length is not 8 times quads bytes
+abbrev pub badLength : Verdict
+badLength = Refused 2 place.Whole (slots 0)
+
+-- ---- the pack
+
+-- the pack must be 8 times quads bytes and no more
+abbrev pub rightLength : Quadwords → ℕ → Bool
+rightLength quads bytes = eqb bytes (8 * quads .0)
+
+-- Order: 1, 2, and then the judge's numbers. A card that a caller makes may have a line out of range; one that was read has none
+abbrev pub byTest : Card → List ℕ → CardTest → Verdict
+byTest card pack (test.BadLine n) = badLine n
+byTest card pack test.InRange = cond (rightLength (card .quads) (length pack)) (judgement card (wordsIn pack)) badLength
+
+-- the verdict on a pack in bytes, by any card
+unfoldable pub packVerdict : Card → List ℕ → Verdict
+packVerdict card pack = byTest card pack (testOf card)
+
+-- ---- the card and the pack
+
+-- where the card is read, its build and the verdict on what stands behind it; else 1, with the build unknown
+abbrev pub behindCard : List ℕ → CardRead → Judged
+behindCard input (read.Whole card taken) = answer (shown (card .build)) (packVerdict card (drop taken input))
+behindCard input (read.BadLine n) = answer report.Unknown (badLine n)
+
+-- what is answered to an input
+unfoldable pub judgedOf : List ℕ → Judged
+judgedOf input = behindCard input (cardOf input)
+
+-- the report on an input
+unfoldable pub reportOf : List ℕ → List ℕ
+reportOf input = reportBytes (judgedOf input .build) (judgedOf input .verdict)

@@ -1,0 +1,80 @@
+-- Decoding and encoding at a start in a buffer of words: document 01, "Numbers and what they mean", the two paragraphs on encoder and
+-- decoder. A start is a word number and may be any number.
+use Prim.Native.Nat.{ℕ, _+_}
+use mathlib.Core.Path.{_≡_}
+use mathlib.Core.Bool.{Bool, cond, _&&_}
+use mathlib.Core.List.{List}
+use lib.Dec.{leb}
+use lib.ListN.{length, getD, set}
+use Rattle.units.specs.declared.Words.{Words}
+use Rattle.units.specs.Units.{slots}
+use Rattle.checks.specs.declared.Place.the-variants.{Whole}
+use Rattle.checks.specs.declared.Verdict.{Verdict}
+use Rattle.checks.specs.declared.Verdict.the-variants.{Accepted, Refused}
+use Rattle.checks.specs.Verdict.{verdictNumber, verdictPlace, verdictSlot}
+use Rattle.microcode.specs.declared.Instruction.{Instruction}
+use Rattle.microcode.specs.declared.Decoded.{Decoded}
+use Rattle.microcode.specs.declared.Decoded.the-variants.{Outside, NotTaken, Taken}
+use Rattle.microcode.specs.declared.Encoded.{Encoded}
+use Rattle.microcode.specs.declared.Encoded.the-variants.{NoRecord, NoRoom, Done}
+use Rattle.microcode.specs.declared.Stream.{Stream}
+use Rattle.microcode.specs.declared.Stream.the-variants.{ControlFlow, Alu}
+use Rattle.microcode.specs.Pair.{pairOf, numberTaken, encodable, lowOf, highOf}
+
+-- two words from start on lie wholly in the words
+unfoldable pub room : List ℕ → ℕ → Bool
+room l start = leb (start + 2) (length l)
+
+-- the pair at start, where it is wholly in the words
+unfoldable pub decodeOf : Stream → List ℕ → Words → Decoded
+decodeOf stream l start = cond (room l (start .0)) (pairOf stream (getD l (start .0) 0) (getD l (start .0 + 1) 0)) Outside
+
+-- the record is asked about before the room
+unfoldable pub encodeAnswer : Instruction → List ℕ → Words → Encoded
+encodeAnswer i l start = cond (encodable i) (cond (room l (start .0)) Done NoRoom) NoRecord
+
+-- the whole buffer afterwards: all other words stay, and a refusal writes nothing
+unfoldable pub encodeWords : Instruction → List ℕ → Words → List ℕ
+encodeWords i l start =
+    cond (encodable i && room l (start .0)) (set (set l (start .0) (lowOf i)) (start .0 + 1) (highOf i)) l
+
+-- what decodes encodes at the same start to Done and to the same whole buffer
+pub record Rewritten (i : Instruction) (l : List ℕ) (start : Words) : Type 0 where
+  pub done : encodeAnswer i l start ≡ Done
+  pub same : encodeWords i l start ≡ l
+
+-- ---- the answers by the paper's number, place and slot
+
+-- CF number not taken, ALU number not taken
+abbrev pub notTaken : Stream → ℕ
+notTaken ControlFlow = 4
+notTaken Alu = 11
+
+-- every refusal has place and slot 0
+abbrev pub refused : ℕ → Verdict
+refused rule = Refused rule Whole (slots 0)
+
+abbrev pub decodedVerdict : Stream → Decoded → Verdict
+decodedVerdict stream Outside = refused 2
+decodedVerdict stream NotTaken = refused (notTaken stream)
+decodedVerdict stream (Taken i) = Accepted
+
+abbrev pub encodedVerdict : Encoded → Verdict
+encodedVerdict NoRecord = refused 21
+encodedVerdict NoRoom = refused 20
+encodedVerdict Done = Accepted
+
+-- a verdict of that number, with place and slot 0
+pub record Answers (v : Verdict) (n : ℕ) : Type 0 where
+  pub number : verdictNumber v ≡ n
+  pub place : verdictPlace v ≡ 0
+  pub slot : verdictSlot v ≡ 0
+
+-- 2 if the pair isn't wholly in the words, else 4 or 11 if the number isn't taken, and otherwise always a record
+unfoldable pub decodeNumber : Stream → List ℕ → Words → ℕ
+decodeNumber stream l start =
+    cond (room l (start .0)) (cond (numberTaken stream (getD l (start .0 + 1) 0)) 0 (notTaken stream)) 2
+
+-- 21 if a field exceeds its width or the record isn't of a taken form, else 20 if the words don't fit at the start
+unfoldable pub encodeNumber : Instruction → List ℕ → Words → ℕ
+encodeNumber i l start = cond (encodable i) (cond (room l (start .0)) 0 20) 21

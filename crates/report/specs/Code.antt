@@ -1,0 +1,11 @@
+-- A step of the way to a report: what the functions that put one part of it promise each other.
+use Prim.Native.Nat.{ℕ, _+_}
+use mathlib.Core.Path.{_≡_}
+use mathlib.Core.List.{List, _++_}
+use lib.ListN.{length, take, drop}
+
+-- bytes were put into a buffer at a place, behind what stood before it; what stands behind their end is as it was
+pub record Appended (at : ℕ) (bytes earlier later : List ℕ) (end : ℕ) : Type 0 where
+  pub ends : end ≡ at + length bytes
+  pub written : take end later ≡ take at earlier ++ bytes
+  pub kept : drop end later ≡ drop end earlier

@@ -1,0 +1,60 @@
+-- The sources that rules 12 and 15 refuse, as gaps among the values of SEL (9 bits) and, above it, REL: a row for each 32 values. These are
+-- the code's tables; what they say of the rules is proved in proofs/OfGaps.antt, over specs/Instruction.antt and specs/Grants.antt.
+use Prim.Native.Nat.{ℕ, zero, suc, _+_, _-_, _/_, _%_, _^_, min}
+use mathlib.Core.Bool.{Bool, true, cond, _&&_, _||_}
+use mathlib.Core.List.{List, [], _∷_}
+use lib.Dec.{eqb, ltb}
+use lib.ListN.{getD}
+use Rattle.bits.specs.Fields.{bits, valueIn}
+use Rattle.formats.specs.Fields.{Field, position, _of_, «SRC0_SEL», «SRC0_REL», «SRC1_SEL», «SRC1_REL», «SRC2_SEL», «SRC2_REL», «INDEX_MODE», «PRED_SEL», «BANK_SWIZZLE», «DST_GPR», «DST_REL»}
+use Rattle.grants.specs.declared.Limits.{Limits}
+use Rattle.grants.specs.Grants.{locked}
+use Rattle.instructions.specs.Instruction.{isOp3, isWritten}
+
+-- SEL and, above it, REL, as one number
+abbrev pub withRel : Field → Field → ℕ → ℕ
+withRel sel rel n = valueIn n (bits (position rel .0) (position sel .1))
+
+-- a number k times, then the rest
+abbrev pub times : ℕ → ℕ → List ℕ → List ℕ
+times zero v rest = rest
+times (suc k) v rest = v ∷ times k v rest
+
+-- 0 to 127, 128 to 159, 160 to 191, 192 to 255, 256 to 511; then with REL set, where only 192 to 255 have a gap
+abbrev pub byRow : ℕ → ℕ → ℕ → ℕ → ℕ → ℕ → List ℕ
+byRow registers set0 set1 reserved constants relative =
+    times 4 registers
+    (times 1 set0 (times 1 set1 (times 2 reserved (times 8 constants (times 6 0 (times 2 relative (times 8 0 [])))))))
+
+-- where the gaps start
+unfoldable pub startsOf : Limits → List ℕ
+startsOf l = byRow (l .gprs) (128 + locked (l .mode0)) (160 + locked (l .mode1)) 192 (256 + min (l .consts) 256) 704
+
+-- and how many values they have: registers from gprs on and below 128 less temps; what a set's mode does not lock; 192 to 247; constants
+-- from consts on; with REL set, 192 to 255
+unfoldable pub widthsOf : Limits → List ℕ
+widthsOf l = byRow (128 - l .temps - l .gprs) (32 - locked (l .mode0)) (32 - locked (l .mode1)) 56 (256 - min (l .consts) 256) 64
+
+-- x is less than the width behind the start, counted in 32 bits
+unfoldable pub isAmong : ℕ → ℕ → ℕ → Bool
+isAmong x start width = ltb ((x + (2 ^ 32 - start)) % 2 ^ 32) width
+
+-- x lies in the gap of its row
+unfoldable pub inGap : List ℕ → List ℕ → ℕ → Bool
+inGap starts widths x = isAmong x (getD starts (x / 32 % 32) 0) (getD widths (x / 32 % 32) 0)
+
+-- the destination is written, and its relative bit is not set
+unfoldable pub namesDestination : ℕ → Bool
+namesDestination hi = isWritten hi && eqb («DST_REL» of hi) 0
+
+-- a source is 253, a literal
+unfoldable pub asksLiteral : ℕ → ℕ → Bool
+asksLiteral lo hi = eqb («SRC0_SEL» of lo) 253 || (eqb («SRC1_SEL» of lo) 253 || (isOp3 hi && eqb («SRC2_SEL» of hi) 253))
+
+-- what is asked of an instruction: PRED_SEL, INDEX_MODE, bank swizzle; sources 0 and 1; source 2 of an OP3; the destination
+unfoldable pub brokenBy : List ℕ → List ℕ → ℕ → ℕ → Bool
+brokenBy starts widths lo hi =
+    cond (eqb («PRED_SEL» of lo) 1 || (ltb 4 («INDEX_MODE» of lo) || ltb 5 («BANK_SWIZZLE» of hi))) true
+    (cond (inGap starts widths (withRel «SRC0_SEL» «SRC0_REL» lo) || inGap starts widths (withRel «SRC1_SEL» «SRC1_REL» lo)) true
+    (cond (isOp3 hi && inGap starts widths (withRel «SRC2_SEL» «SRC2_REL» hi)) true
+    (inGap starts widths («DST_GPR» of hi) && namesDestination hi)))

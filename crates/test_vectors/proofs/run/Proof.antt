@@ -1,0 +1,54 @@
+-- `test_vectors::run` ends: the cases that it may still judge get fewer. Assumes nothing.
+use borrow.Author.Needs.{needs}
+use mathlib.Core.Path.{_≡_}
+use lib.ListN.{length}
+use Rattle.test_vectors.proofs.run.Statement.{statement}
+use Rattle.test_vectors.proofs.run.Tie as tie
+
+abbrev Inv-loop : tie.InvT-loop
+Inv-loop bytes₀ report₀ left₀ bytes report left = (length bytes ≡ length bytes₀) × (length report ≡ length report₀)
+
+abbrev μ-loop : tie.MeasureT-loop
+μ-loop bytes₀ report₀ left₀ bytes report left = left
+
+loop-holds : tie.Need-loop-holds Inv-loop μ-loop
+loop-holds c = search needs
+
+same-length : tie.Need-same-length Inv-loop μ-loop
+same-length c = search needs
+
+same-length-2 : tie.Need-same-length-2 Inv-loop μ-loop
+same-length-2 c = search needs
+
+same-length-3 : tie.Need-same-length-3 Inv-loop μ-loop
+same-length-3 c = search needs
+
+sub-left : tie.Need-sub-left Inv-loop μ-loop
+sub-left c = search needs
+
+loop-less : tie.Need-loop-less Inv-loop μ-loop
+loop-less c = search needs
+
+loop-again : tie.Need-loop-again Inv-loop μ-loop
+loop-again c = search needs
+
+same-length-4 : tie.Need-same-length-4 Inv-loop μ-loop
+same-length-4 c = search needs
+
+pub run-spec : {M : Type 1} → statement M
+run-spec =
+    tie.close
+    (tie.spec
+    Inv-loop
+    μ-loop
+    loop-holds
+    (λ c κs. tt)
+    same-length
+    same-length-2
+    (λ c. search needs)
+    sub-left
+    loop-less
+    loop-again
+    same-length-3
+    same-length-4
+    (λ c. search needs))
