@@ -1,22 +1,22 @@
 // What the programs that judge share: room for an input, and the report on it written to standard output.
 ghost use mathlib.Core.Path.{_≡_};
-ghost use lib.ListN.{length};
+ghost use lib.ListN.{replicate};
 ghost use Rattle.report.specs.Buffer.{bufferAfter};
 ghost use Rattle.input.specs.Input.{reportOf};
 use libc::STDOUT_FILENO;
 use report::Written;
 
-// Room for a byte more than the longest card and the longest pack have: what stands behind those changes no report (`enough`, in
+// Room for a byte more than the longest card and the longest pack have: what stands behind those changes no report (`enough-read`, in
 // input's proofs/OfReading.antt), so an endless input is answered, too.
 pub fn input_room() -> [u8; 65610]
-    ensures { λ r. ⌜ 65610 ≡ length r ⌝ }
+    ensures { λ r. ⌜ r ≡ replicate 65610 0 ⌝ }
 {
     [0; 65610]
 }
 
 // Room for the longest report.
 pub fn report_room() -> [u8; 111]
-    ensures { λ r. ⌜ 111 ≡ length r ⌝ }
+    ensures { λ r. ⌜ r ≡ replicate 111 0 ⌝ }
 {
     [0; 111]
 }
