@@ -1,4 +1,4 @@
-//! Points the linker at the archives that `rt staticlib` leaves at the root of the repository.
+//! Points the linker at the archives that `rt staticlib` leaves in the repository's target/staticlib.
 
 use std::path::Path;
 
@@ -10,7 +10,7 @@ fn main() {
         println!("cargo:rerun-if-changed={}", archive.display());
         if !archive.is_file() {
             eprintln!("error: {} is missing", archive.display());
-            eprintln!("note: make it first, at the root of the repository, with `rt staticlib {library}`");
+            eprintln!("note: bench/run makes it, and so does `rt staticlib {library}` at the root of the repository");
             std::process::exit(1);
         }
         println!("cargo:rustc-link-lib=static={library}");

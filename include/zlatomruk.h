@@ -1,10 +1,15 @@
-/* Functions of the proved judge and codec, for C and C++ on x86-64. `rt staticlib judge_for_c` writes
- * target/staticlib/libjudge_for_c.a, which has the judge, and `rt staticlib codec_for_c` libcodec_for_c.a beside it, which has the codec;
- * link what you call. Nothing is allocated, and any arguments get an answer.
+/* The proved judge and codec, for C and C++ on x86-64 Linux. One archive has all of it: `./install PREFIX` puts it where pkg-config finds it
+ * (zlatomruk), and `tools/archive` writes target/libzlatomruk.a in a checkout. docs/USING.md has examples.
  *
- * What is proved holds of a caller who keeps this: each pointer is valid for as many elements as the length behind it says (it may be
- * anything where the length is 0); what a function writes, the codec's arguments that are not const, does not overlap the rest; and nobody
- * else writes to any of it meanwhile. A stack that runs out is outside of every theorem. */
+ * Nothing is allocated, nothing is kept between calls and nothing is written but what an argument without const points to: every function may be
+ * called from several threads at once. The only symbol that the archive needs is memset. Any arguments get an answer.
+ *
+ * What is proved holds of a caller who keeps this:
+ * - Each pointer is aligned as its type asks and valid for as many ELEMENTS (not bytes) as the length behind it says; where the length is 0 it
+ *   may be anything, NULL too.
+ * - What a function writes (the codec's arguments that are not const) does not overlap its other arguments, and nobody else writes to any
+ *   argument meanwhile.
+ * - The stack has room: ZLATOMRUK_STACK bytes are enough for any call. A stack that runs out is outside of every theorem. */
 #ifndef ZLATOMRUK_H
 #define ZLATOMRUK_H
 
@@ -15,15 +20,61 @@
 extern "C" {
 #endif
 
-/* The verdict on a pack of 32-bit words by a card in bytes (seven lines; what stands behind them is not looked at). It is 0 exactly if the
- * pack is accepted; then every walk of it is safe (docs/READING.md, demand 3). */
+#define ZLATOMRUK_VERSION "0.4.0"
+#define ZLATOMRUK_VERSION_NUMBER 400 /* 10,000 times the first number, 100 times the second, and the third */
+
+enum { ZLATOMRUK_STACK = 98304 };
+
+/* ---- The judge */
+
+/* The numbers of verdicts and answers: docs/USING.md says what each means and what to do about it. */
+enum zlatomruk_verdict {
+    ZLATOMRUK_VERDICT_ACCEPTED = 0,
+    ZLATOMRUK_VERDICT_CARD = 1,
+    ZLATOMRUK_VERDICT_LENGTH = 2,
+    ZLATOMRUK_VERDICT_NO_END = 3,
+    ZLATOMRUK_VERDICT_CF_NUMBER = 4,
+    ZLATOMRUK_VERDICT_CF_FIELD = 5,
+    ZLATOMRUK_VERDICT_CLAUSE_RANGE = 6,
+    ZLATOMRUK_VERDICT_EXPORT = 7,
+    ZLATOMRUK_VERDICT_FETCH_NUMBER = 8,
+    ZLATOMRUK_VERDICT_FETCH_REGISTER = 9,
+    ZLATOMRUK_VERDICT_GROUP_SHAPE = 10,
+    ZLATOMRUK_VERDICT_ALU_NUMBER = 11,
+    ZLATOMRUK_VERDICT_ALU_FIELD = 12,
+    ZLATOMRUK_VERDICT_UNIT = 13,
+    ZLATOMRUK_VERDICT_ISSUE = 14,
+    ZLATOMRUK_VERDICT_NOT_GRANTED = 15,
+    ZLATOMRUK_VERDICT_STACK = 16,
+    ZLATOMRUK_VERDICT_STACK_AT_END = 17,
+    ZLATOMRUK_VERDICT_TARGET = 18,
+    ZLATOMRUK_VERDICT_STACKS_DIFFER = 19,
+    ZLATOMRUK_VERDICT_NO_ROOM = 20, /* the codec's */
+    ZLATOMRUK_VERDICT_NO_RECORD = 21 /* the codec's */
+};
+
+/* A card is seven lines of text, `kind=ps` and so on, in ZLATOMRUK_CARD_LENGTH bytes at most. Its kinds and builds: */
+#define ZLATOMRUK_KIND_PIXEL "ps"
+#define ZLATOMRUK_KIND_VERTEX "vs"
+#define ZLATOMRUK_KIND_GEOMETRY "gs"
+#define ZLATOMRUK_BUILD_PRODUCTION "production"
+#define ZLATOMRUK_BUILD_DEBUG "debug"
+enum { ZLATOMRUK_CARD_LENGTH = 73 };
+
+/* The verdict on a pack's file by a card's, each whole and in bytes, and whether the pack is released. What `judge CARD PACK` answers: a byte too
+ * many in the pack is 2; bytes behind the card's seventh line are 1 at place 8. */
+uint64_t zlatomruk_judge_files(const uint8_t *card, size_t card_length, const uint8_t *pack, size_t pack_length);
+
+/* The verdict on a pack of 32-bit words by a card in bytes; what stands behind the card's seventh line is not looked at. It says nothing of
+ * release: 0 is accepted, a debug build or not. Then every walk of the pack is safe (docs/READING.md, demand 3). */
 uint64_t zlatomruk_judge(const uint8_t *card, size_t card_length, const uint32_t *words, size_t words_length);
 
-/* A verdict: its number in bits 7:0 (0 is accepted), its place in bits 31:16, its slot in bits 47:32. Bits 15:8 are 0 and reserved for the
- * operand at fault; bits 63:48 are 0. */
-static inline uint32_t zlatomruk_number(uint64_t verdict) { return (uint32_t)(verdict & 0xFF); }
-static inline uint32_t zlatomruk_place(uint64_t verdict) { return (uint32_t)(verdict >> 16 & 0xFFFF); }
-static inline uint32_t zlatomruk_slot(uint64_t verdict) { return (uint32_t)(verdict >> 32 & 0xFFFF); }
+/* What an answer holds: the verdict's number in bits 7:0, its place in bits 31:16, its slot in bits 47:32. Bit 48 is set exactly if the pack is
+ * released, which zlatomruk_judge never says. Bits 15:8 are 0 and kept for the operand at fault; bits 63:49 are 0. */
+static inline uint32_t zlatomruk_number(uint64_t answer) { return (uint32_t)(answer & 0xFF); }
+static inline uint32_t zlatomruk_place(uint64_t answer) { return (uint32_t)(answer >> 16 & 0xFFFF); }
+static inline uint32_t zlatomruk_slot(uint64_t answer) { return (uint32_t)(answer >> 32 & 0xFFFF); }
+static inline int zlatomruk_released(uint64_t answer) { return (int)(answer >> 48 & 1); }
 
 /* ---- The codec: a pair of words as 32-bit values, and back.
  *
@@ -56,6 +107,7 @@ static inline uint32_t zlatomruk_slot(uint64_t verdict) { return (uint32_t)(verd
  *  23                                                          CLAMP */
 enum zlatomruk_form { ZLATOMRUK_CF_ALU, ZLATOMRUK_CF, ZLATOMRUK_EXPORT, ZLATOMRUK_OP2, ZLATOMRUK_OP3 };
 
+/* The two kinds of pairs. */
 enum zlatomruk_stream { ZLATOMRUK_CONTROL_FLOW, ZLATOMRUK_ALU };
 
 /* The elements that a row has to have, whatever its form: the longest form takes 24 of them. */
@@ -100,9 +152,9 @@ enum zlatomruk_op3_value {
     ZLATOMRUK_OP3_CLAMP
 };
 
-/* Decodes the pair at word `start` of `words` (any number): control flow where `stream` is 0, ALU otherwise. 0, and the form's values are
- * written; the elements behind them stay as they were. Else nothing is written: 2 where the pair does not lie in the words, 4 or 11 where
- * its control-flow or ALU number is not taken, 20 where it is and `values` has fewer than 32 elements. */
+/* Decodes the pair at word `start` of `words` (any number) as one of that stream. 0, and the form's values are written; the elements behind them
+ * stay as they were. Else nothing is written: 21 where `stream` is above 1, whatever the rest; 2 where the pair does not lie in the words, 4 or 11
+ * where its control-flow or ALU number is not taken, 20 where it is and `values` has fewer than 32 elements. */
 uint32_t zlatomruk_decode(const uint32_t *words, size_t words_length, size_t start, uint32_t stream, uint32_t *values,
                           size_t values_length);
 

@@ -16,9 +16,12 @@ fn bits<const HIGH: u32, const LOW: u32>(word: u32) -> u32 {
     word << (31 - HIGH) >> (31 - HIGH + LOW)
 }
 
-/// The pair at word `start`, in control flow if `stream` is 0 and in an ALU clause otherwise. Answers 0, or 2, 4, 11 (document 01)
-/// or 20 if `values` is short; then nothing is written.
+/// The pair at word `start`, in control flow if `stream` is 0 and in an ALU clause if it is 1. Answers 0, or 21 if it is neither, 2, 4, 11
+/// (document 01) or 20 if `values` is short; then nothing is written.
 pub fn decode(words: &[u32], start: usize, stream: u32, values: &mut [u32]) -> u32 {
+    if stream > 1 {
+        return 21;
+    }
     let Some([low, high]) = words.get(start..).and_then(|rest| rest.first_chunk()).copied() else { return 2 };
     if stream == 0 { decode_control(low, high, values) } else { decode_alu(low, high, values) }
 }

@@ -7,5 +7,6 @@ pub mod OfRows
 pub mod OfCard
 pub mod OfDecimals
 pub mod OfWritten
+pub mod OfBehind
 pub mod OfCut
 pub mod Examples

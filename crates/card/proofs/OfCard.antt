@@ -168,6 +168,11 @@ in-range-exactly-if card = (range-figures card, figures-range card)
 pub whole-length : (s : List ℕ) (card : Card) (n : ℕ) → cardOf s ≡ Whole card n → n ≤ length s
 whole-length s card n h = let e = whole-says s card n h .taken in omega (arith, lines-within 7 s)
 
+-- they are all of it where nothing stands behind line 7's line feed
+pub whole-all : (s : List ℕ) (card : Card) (n : ℕ) → cardOf s ≡ Whole card n → behind 7 s ≡ [] → n ≡ length s
+unfolding linesLength
+whole-all s card n h e = let t = whole-says s card n h .taken in omega (arith, ap length e)
+
 -- the pack is what stands behind line 7's line feed
 pub whole-behind : (s : List ℕ) (card : Card) (n : ℕ) → cardOf s ≡ Whole card n → drop n s ≡ behind 7 s
 whole-behind s card n h = ap (λ (k : ℕ). drop k s) (whole-says s card n h .taken) ∙ lines-behind 7 s

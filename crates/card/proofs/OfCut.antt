@@ -3,7 +3,7 @@
 use mathlib.Core.Path.{_≡_, refl, ap, sym, _∙_}
 use mathlib.Core.Bool.{Bool, true, false, cond}
 use mathlib.Core.List.{List, [], _∷_, _++_}
-use mathlib.Core.Option.{Option, none, some, Option·map, Option·none-ne-some, Option·some-injective, map-eq-some-iff}
+use mathlib.Core.Option.{Option, none, some, Option·none-ne-some, Option·some-injective, map-eq-some-iff}
 use Prim.Native.Nat.{ℕ, zero, suc, pred, _+_, _-_, _^_, _≤_, _<_}
 use Prim.Native.String.{String}
 use native.Mathlib.Omega.{arith}
@@ -24,11 +24,9 @@ use Rattle.card.proofs.OfKeys.{same-text}
 use Rattle.card.proofs.OfRows.{card-lines}
 use Rattle.card.proofs.OfDecimals.{number-text}
 use Rattle.card.proofs.OfCard.{ranged, whole-length}
+use Rattle.card.proofs.OfBehind.{before}
 
 -- ---- the first line of the first bytes
-
-abbrev before : ℕ → Option (List ℕ) → Option (List ℕ)
-before b o = Option·map (λ l. b ∷ l) o
 
 -- the first line of the first m bytes is the first line, or none where that is cut
 abbrev cut : ℕ → Option (List ℕ) → Option (List ℕ)
@@ -138,7 +136,7 @@ figure-short low high d h = number-short d (from low to high) (λ n a. (omega (a
 
 -- ---- the lines of the first bytes
 
-drop-take : (a n : ℕ) (u : List ℕ) → drop a (take n u) ≡ take (n - a) (drop a u)
+pub drop-take : (a n : ℕ) (u : List ℕ) → drop a (take n u) ≡ take (n - a) (drop a u)
 drop-take zero n u = let e : n ≡ n - 0 = omega arith in ap (λ (i : ℕ). take i u) e
 drop-take (suc a) zero u = let e : 0 ≡ 0 - suc a = omega arith in ap (λ (i : ℕ). take i (drop (suc a) u)) e
 drop-take (suc a) (suc n) [] = sym (take-nil (suc n - suc a))

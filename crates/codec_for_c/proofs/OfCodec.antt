@@ -19,7 +19,7 @@ use Rattle.microcode.specs.declared.Encoded.the-variants.{NoRecord, NoRoom, Don
 use Rattle.microcode.specs.declared.Stream.{Stream}
 use Rattle.microcode.proofs.Decoded as decoded-type
 use Rattle.microcode.specs.Buffer.{decodeOf, decodedVerdict, encodeAnswer, encodeWords, encodedVerdict}
-use Rattle.codec_for_c.specs.Values.{valuesOf, rowLength, written, formOf, recordOf, roomy, isRecord, streamNumbered, rowAnswer, rowVerdict, rowAfter, decodedNumber, decodedValues, encodedFrom, encodedNumber, encodedWords}
+use Rattle.codec_for_c.specs.Values.{valuesOf, rowLength, written, formOf, recordOf, roomy, isRecord, streamNumbered, rowAnswer, rowVerdict, rowAfter, isStream, decodedNumber, decodedValues, encodedFrom, encodedNumber, encodedWords}
 
 roomy-yes : (vs : List ℕ) → rowLength ≤ length vs → roomy vs ≡ true
 unfolding roomy
@@ -47,12 +47,12 @@ refusal s Outside vs h = (refl, refl)
 refusal s NotTaken vs h = (refl, refl)
 refusal s (Taken i) vs h = absurd (⊎-elim (λ p. omega arith) (λ p. omega arith) h)
 
-module _ (stream : ℕ) (l : List ℕ) (start : ℕ) (vs : List ℕ) (s : Stream) (d : Decoded) (e : s ≡ streamNumbered stream) (f : d ≡ decodeOf s l (words start)) where
+module _ (stream : ℕ) (l : List ℕ) (start : ℕ) (vs : List ℕ) (s : Stream) (d : Decoded) (is : stream ≤ 1) (e : s ≡ streamNumbered stream) (f : d ≡ decodeOf s l (words start)) where
   answered : (a : Decoded) (n : ℕ) (m : List ℕ) → d ≡ a → n ≡ verdictNumber (rowVerdict s a vs) → m ≡ rowAfter a vs → (n ≡ decodedNumber stream l start vs) × (m ≡ decodedValues stream l start vs)
-  unfolding decodedNumber decodedValues
+  unfolding decodedNumber decodedValues isStream
   answered a n m g h p =
       let k : a ≡ decodeOf (streamNumbered stream) l (words start) = sym g ∙ f ∙ ap (λ (t : Stream). decodeOf t l (words start)) e in
-      (h ∙ (λ j. verdictNumber (rowVerdict (e j) (k j) vs)), p ∙ ap (λ (x : Decoded). rowAfter x vs) k)
+      (rw (le-leb stream 1 is) (h ∙ (λ j. verdictNumber (rowVerdict (e j) (k j) vs))), rw (le-leb stream 1 is) (p ∙ ap (λ (x : Decoded). rowAfter x vs) k))
 
   pub decode-refused : (n : ℕ) → OneOf (0 ∷ 1 ∷ []) (tagOf decoded-type.the-type d) → n ≡ verdictNumber (decodedVerdict s d) → (n ≡ decodedNumber stream l start vs) × (vs ≡ decodedValues stream l start vs)
   decode-refused n g h =
@@ -61,6 +61,11 @@ module _ (stream : ℕ) (l : List ℕ) (start : ℕ) (vs : List ℕ) (s : Stream
 
   pub decode-taken : (i : Instruction) (x : Encoded) (n : ℕ) (m : List ℕ) → d ≡ Taken i → x ≡ rowAnswer vs → m ≡ rowAfter (Taken i) vs → n ≡ verdictNumber (encodedVerdict x) → (n ≡ decodedNumber stream l start vs) × (m ≡ decodedValues stream l start vs)
   decode-taken i x n m g h p q = answered (Taken i) n m g (q ∙ ap (λ (y : Encoded). verdictNumber (encodedVerdict y)) h) p
+
+-- no such stream: 21, and nothing is written
+pub decode-no-stream : (stream : ℕ) (l : List ℕ) (start : ℕ) (vs : List ℕ) (n : ℕ) → 1 < stream → n ≡ verdictNumber (encodedVerdict NoRecord) → (n ≡ decodedNumber stream l start vs) × (vs ≡ decodedValues stream l start vs)
+unfolding decodedNumber decodedValues isStream
+decode-no-stream stream l start vs n h e = (rw (lt-leb stream 1 h) e, rw (lt-leb stream 1 h))
 
 -- ---- encoding
 
@@ -77,11 +82,11 @@ module _ (vs l : List ℕ) (start : ℕ) where
   unfolding isRecord
   encode-other-form n h k e = no-record n (rw (roomy-yes vs h) (lt-leb (formOf vs) 4 k)) e
 
-  pub encode-record : (i : Instruction) (x : Encoded) (n : ℕ) (m : List ℕ) → rowLength ≤ length vs → formOf vs ≤ 4 → i ≡ recordOf vs → x ≡ encodeAnswer i l (words start) → m ≡ encodeWords i l (words start) → n ≡ verdictNumber (encodedVerdict x) → (n ≡ encodedNumber vs l start) × (m ≡ encodedWords vs l start)
+  pub encode-record : (x : Encoded) (n : ℕ) (m : List ℕ) → rowLength ≤ length vs → formOf vs ≤ 4 → (x ≡ encodeAnswer (recordOf vs) l (words start)) × (m ≡ encodeWords (recordOf vs) l (words start)) → n ≡ verdictNumber (encodedVerdict x) → (n ≡ encodedNumber vs l start) × (m ≡ encodedWords vs l start)
   unfolding isRecord encodedFrom encodedWords
-  encode-record i x n m h k e f g q =
+  encode-record x n m h k e q =
       let b = roomy-yes vs h in
       let c = le-leb (formOf vs) 4 k in (
-        rw (b, c) (q ∙ ap (λ (z : Encoded). verdictNumber (encodedVerdict z)) (f ∙ ap (λ (j : Instruction). encodeAnswer j l (words start)) e)),
-        rw (b, c) (g ∙ ap (λ (j : Instruction). encodeWords j l (words start)) e),
+        rw (b, c) (q ∙ ap (λ (z : Encoded). verdictNumber (encodedVerdict z)) (e .0)),
+        rw (b, c) (e .1),
       )

@@ -35,7 +35,7 @@ use Rattle.microcode.specs.declared.Stream.the-variants as stream
 use Rattle.microcode.specs.Pair.{encodable, streamOf}
 use Rattle.microcode.specs.Buffer.{decodeOf, encodeAnswer, encodedVerdict}
 use Rattle.microcode.proofs.RoundTrip.{words-again, done-fits, record-again-at}
-use Rattle.codec_for_c.specs.Values.{valuesOf, written, formOf, recordOf, rowLength, roomy, isRecord, cfAluWord0At, cfAluWord1At, cfWord0At, cfWord1At, exportWord0At, exportWord1At, aluWord0At, op2At, op3At, streamNumbered, rowVerdict, decodedNumber, decodedValues, encodedFrom, encodedNumber, encodedWords, WordsAgain, RowAgain}
+use Rattle.codec_for_c.specs.Values.{valuesOf, written, formOf, recordOf, rowLength, roomy, isRecord, cfAluWord0At, cfAluWord1At, cfWord0At, cfWord1At, exportWord0At, exportWord1At, aluWord0At, op2At, op3At, streamNumber, isStream, streamNumbered, rowVerdict, decodedNumber, decodedValues, encodedFrom, encodedNumber, encodedWords, WordsAgain, RowAgain}
 
 -- ---- a record and its values
 
@@ -187,25 +187,37 @@ written-record i vs h =
 pub values-round-trip : (stream : ℕ) (l : List ℕ) (start : ℕ) (vs : List ℕ) → ((k : ℕ) → getD l k 0 < 2 ^ 32) → decodedNumber stream l start vs ≡ 0 → WordsAgain (decodedValues stream l start vs) l start
 unfolding decodedNumber decodedValues encodedFrom encodedWords
 values-round-trip stream l start vs small h =
-    taken-with (streamNumbered stream) vs (decodeOf (streamNumbered stream) l (words start)) h
+    by-test (isStream stream)
+    (λ s.
+    taken-with (streamNumbered stream) vs (decodeOf (streamNumbered stream) l (words start)) (rw s at h)
     (λ i e t.
     let again = words-again i l (words start) (streamNumbered stream) small e in
     let fit = done-fits i l (words start) (again .done) .0 in
     let same = record-of-values i (drop (length (valuesOf i)) vs) fit in
     let is = written-record i vs t in
-    record { number = rw (e, t, is, same, again .done); same = rw (e, t, is, same) (again .same) })
+    record { number = rw (s, e, t, is, same, again .done); same = rw (s, e, t, is, same) (again .same) }))
+    (λ s. let z : verdictNumber (encodedVerdict NoRecord) ≡ 0 = rw s at h in absurd (omega arith))
+
+-- a stream's number is one, and its own
+known-stream : (s : Stream) → (streamNumbered (streamNumber s) ≡ s) × (isStream (streamNumber s) ≡ true)
+unfolding streamNumbered isStream
+known-stream stream.ControlFlow = (refl, refl)
+known-stream stream.Alu = (refl, refl)
 
 -- values that were encoded, decoded from their place in the record's stream: 0, and every value is as it was
-pub words-round-trip : (stream : ℕ) (l : List ℕ) (start : ℕ) (vs : List ℕ) → streamNumbered stream ≡ streamOf (recordOf vs) → encodedNumber vs l start ≡ 0 → RowAgain stream (encodedWords vs l start) start vs
+pub words-round-trip : (l : List ℕ) (start : ℕ) (vs : List ℕ) → encodedNumber vs l start ≡ 0 → RowAgain (streamNumber (streamOf (recordOf vs))) (encodedWords vs l start) start vs
 unfolding decodedNumber decodedValues encodedFrom encodedWords
-words-round-trip stream l start vs s h =
+words-round-trip l start vs h =
+    let k = known-stream (streamOf (recordOf vs)) in
+    let s = k .0 in
+    let n = k .1 in
     by-test (isRecord vs)
     (λ t.
     let d = done-with (encodeAnswer (recordOf vs) l (words start)) (rw t at h) in
     let fit = done-fits (recordOf vs) l (words start) d in
     let again = record-again-at (recordOf vs) l (words start) d in
     let u : roomy vs ≡ true = record-room vs t in
-    record { number = rw (t, s, again, u); same = rw (t, s, again, u) (values-of-record vs t (fit .0)) })
+    record { number = rw (t, n, s, again, u); same = rw (t, n, s, again, u) (values-of-record vs t (fit .0)) })
     (λ t. let z : verdictNumber (encodedVerdict NoRecord) ≡ 0 = rw t at h in absurd (omega arith))
 
 -- ---- what the two functions promise besides their answers and what they leave
@@ -219,11 +231,11 @@ decode-promises stream l start vs n m small e = (
   ),
 )
 
-pub encode-promises : (vs l : List ℕ) (start n : ℕ) (m : List ℕ) → (n ≡ encodedNumber vs l start) × (m ≡ encodedWords vs l start) → (n ≡ encodedNumber vs l start) × ((m ≡ encodedWords vs l start) × (n ≡ 0 → (stream : ℕ) → streamNumbered stream ≡ streamOf (recordOf vs) → RowAgain stream m start vs))
+pub encode-promises : (vs l : List ℕ) (start n : ℕ) (m : List ℕ) → (n ≡ encodedNumber vs l start) × (m ≡ encodedWords vs l start) → (n ≡ encodedNumber vs l start) × ((m ≡ encodedWords vs l start) × (n ≡ 0 → RowAgain (streamNumber (streamOf (recordOf vs))) m start vs))
 encode-promises vs l start n m e = (
   e .0,
   (
     e .1,
-    λ h stream s. subst (λ (x : List ℕ). RowAgain stream x start vs) (sym (e .1)) (words-round-trip stream l start vs s (sym (e .0) ∙ h)),
+    λ h. subst (λ (x : List ℕ). RowAgain (streamNumber (streamOf (recordOf vs))) x start vs) (sym (e .1)) (words-round-trip l start vs (sym (e .0) ∙ h)),
   ),
 )

@@ -231,7 +231,15 @@ isRecord vs = roomy vs && leb (formOf vs) 4
 
 -- ---- decoding
 
--- 0 is control flow, any other number ALU
+-- the streams by number: 0 is control flow, 1 is ALU, and there is no other
+abbrev pub streamNumber : Stream → ℕ
+streamNumber ControlFlow = 0
+streamNumber Alu = 1
+
+unfoldable pub isStream : ℕ → Bool
+isStream n = leb n 1
+
+-- that it is a stream's number is asked by `isStream`
 unfoldable pub streamNumbered : ℕ → Stream
 streamNumbered n = cond (eqb n 0) ControlFlow Alu
 
@@ -255,12 +263,15 @@ rowAfter Outside vs = vs
 rowAfter NotTaken vs = vs
 rowAfter (Taken i) vs = cond (roomy vs) (written (valuesOf i) vs) vs
 
+-- the answer's number; 21 before all others where there is no such stream, since then there is no record to ask for
 unfoldable pub decodedNumber : ℕ → List ℕ → ℕ → List ℕ → ℕ
 decodedNumber stream l start vs =
-    verdictNumber (rowVerdict (streamNumbered stream) (decodeOf (streamNumbered stream) l (words start)) vs)
+    cond (isStream stream)
+    (verdictNumber (rowVerdict (streamNumbered stream) (decodeOf (streamNumbered stream) l (words start)) vs))
+    (verdictNumber (encodedVerdict NoRecord))
 
 unfoldable pub decodedValues : ℕ → List ℕ → ℕ → List ℕ → List ℕ
-decodedValues stream l start vs = rowAfter (decodeOf (streamNumbered stream) l (words start)) vs
+decodedValues stream l start vs = cond (isStream stream) (rowAfter (decodeOf (streamNumbered stream) l (words start)) vs) vs
 
 -- ---- encoding
 

@@ -1,4 +1,4 @@
-// The codec for C and Rust to link, by `rt staticlib values`: an instruction as a row of 32-bit values, its form and then its fields in
+// The codec for C and Rust to link, by `rt staticlib codec_for_c`: an instruction as a row of 32-bit values, its form and then its fields in
 // AMD's order (specs/Values.antt).
 mod records;
 mod rows;
@@ -9,19 +9,19 @@ use microcode::Instruction;
 use microcode::Stream;
 use units::Words;
 ghost use mathlib.Core.Path.{_≡_};
-ghost use Prim.Native.Nat.{ℕ, _≤_};
+ghost use Prim.Native.Nat.{_≤_};
 ghost use lib.ListN.{length};
 ghost use Rattle.checks.specs.Verdict.{verdictNumber};
 ghost use Rattle.microcode.specs.declared.Decoded.the-variants as decoded;
 ghost use Rattle.microcode.specs.Pair.{streamOf};
 ghost use Rattle.microcode.specs.Buffer.{decodedVerdict, encodedVerdict};
-ghost use Rattle.codec_for_c.specs.Values.{rowLength, streamNumbered, rowAnswer, rowAfter, decodedNumber, decodedValues, written, valuesOf, recordOf, encodedNumber, encodedWords, WordsAgain, RowAgain};
+ghost use Rattle.codec_for_c.specs.Values.{rowLength, streamNumber, streamNumbered, rowAnswer, rowAfter, decodedNumber, decodedValues, written, valuesOf, recordOf, encodedNumber, encodedWords, WordsAgain, RowAgain};
 
 // A row has as many elements or more, whatever its form.
 const ROW: usize = 32;
 
-// The pair at word `start`, control flow where `stream` is 0 and ALU otherwise, as values. 2, 4 and 11 are the decoder's; 20 where `values`
-// has fewer than 32 elements. After a 0 the row encodes to the same words again.
+// The pair at word `start`, control flow where `stream` is 0 and ALU where it is 1, as values. 21 where it is neither; 2, 4 and 11 are the
+// decoder's; 20 where `values` has fewer than 32 elements. After a 0 the row encodes to the same words again.
 #[no_mangle]
 pub extern "C" fn zlatomruk_decode(
     words: &[u32],
@@ -33,6 +33,9 @@ pub extern "C" fn zlatomruk_decode(
     ensures { λ r. ⌜ now (values .exit) ≡ decodedValues stream (now (words .entry)) start (now (values .entry)) ⌝ }
     ensures { λ r. ⌜ (r ≡ 0 → WordsAgain (now (values .exit)) (now (words .entry)) start) ⌝ }
 {
+    if 1 < stream {
+        return encoded_number(Encoded::NoRecord);
+    }
     let s = stream_numbered(stream);
     let d = microcode::decode(words, Words(start), s);
     let Decoded::Taken(i) = d else {
@@ -47,7 +50,7 @@ pub extern "C" fn zlatomruk_decode(
 pub extern "C" fn zlatomruk_encode(values: &[u32], words: &mut [u32], start: usize) -> u32
     ensures { λ r. ⌜ r ≡ encodedNumber (now (values .entry)) (now (words .entry)) start ⌝ }
     ensures { λ r. ⌜ now (words .exit) ≡ encodedWords (now (values .entry)) (now (words .entry)) start ⌝ }
-    ensures { λ r. ⌜ (r ≡ 0 → (stream : ℕ) → streamNumbered stream ≡ streamOf (recordOf (now (values .entry))) → RowAgain stream (now (words .exit)) start (now (values .entry))) ⌝ }
+    ensures { λ r. ⌜ (r ≡ 0 → RowAgain (streamNumber (streamOf (recordOf (now (values .entry))))) (now (words .exit)) start (now (values .entry))) ⌝ }
 {
     if values.len() < ROW {
         return encoded_number(Encoded::NoRecord);
@@ -55,8 +58,8 @@ pub extern "C" fn zlatomruk_encode(values: &[u32], words: &mut [u32], start: usi
     if 4 < values[0] {
         return encoded_number(Encoded::NoRecord);
     }
-    let i = records::record_of(values);
-    encoded_number(microcode::encode(i, words, Words(start)))
+    let record = records::words_of(values);
+    encoded_number(microcode::write(record, words, Words(start)))
 }
 
 fn stream_numbered(n: u32) -> Stream

@@ -8,33 +8,35 @@ use formats::cf_alu::CfAluWord0;
 use formats::cf_alu::CfAluWord1;
 use formats::export::CfAllocExportWord0;
 use formats::export::CfAllocExportWord1Swiz;
-use microcode::Instruction;
+use microcode::words;
+use microcode::words::RecordWords;
 use units::Quadwords;
 use units::Slots;
 ghost use mathlib.Core.Path.{_≡_};
 ghost use Prim.Native.Nat.{_≤_};
 ghost use lib.ListN.{length};
+ghost use Rattle.microcode.specs.Pair.{wordsOf};
 ghost use Rattle.codec_for_c.specs.Values.{rowLength, recordOf, cfAluWord0At, cfAluWord1At, cfWord0At, cfWord1At, exportWord0At, exportWord1At, aluWord0At, op2At, op3At};
 
-// By the form in element 0; OP3 for any that the others are not.
-pub(crate) fn record_of(values: &[u32]) -> Instruction
+// The words of that record, by the form in element 0; OP3 for any that the others are not.
+pub(crate) fn words_of(values: &[u32]) -> RecordWords
     requires { ⌜ rowLength ≤ length (now values) ⌝ }
-    ensures { λ r. ⌜ r ≡ recordOf (now (values .entry)) ⌝ }
+    ensures { λ r. ⌜ r ≡ wordsOf (recordOf (now (values .entry))) ⌝ }
 {
     let form = values[0];
     if form == 0 {
-        return Instruction::CfAlu(cf_alu_word0(values), cf_alu_word1(values));
+        return words::of_cf_alu(cf_alu_word0(values), cf_alu_word1(values));
     }
     if form == 1 {
-        return Instruction::Cf(cf_word0(values), cf_word1(values));
+        return words::of_cf(cf_word0(values), cf_word1(values));
     }
     if form == 2 {
-        return Instruction::Export(export_word0(values), export_word1(values));
+        return words::of_export(export_word0(values), export_word1(values));
     }
     if form == 3 {
-        return Instruction::Op2(alu_word0(values), alu_op2(values));
+        return words::of_op2(alu_word0(values), alu_op2(values));
     }
-    Instruction::Op3(alu_word0(values), alu_op3(values))
+    words::of_op3(alu_word0(values), alu_op3(values))
 }
 
 fn cf_alu_word0(values: &[u32]) -> CfAluWord0

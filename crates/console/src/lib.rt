@@ -1,8 +1,16 @@
-// What the programs that judge share: room for an input, and the report on it written to standard output.
+// What the programs that judge share: room for what they read, files by the arguments that name them, and the report on standard output.
+mod files;
+
 ghost use mathlib.Core.Path.{_≡_};
-ghost use lib.ListN.{replicate};
+ghost use Prim.Native.Nat.{ℕ, _≤_};
+ghost use lib.ListN.{length, replicate};
+ghost use Rattle.report.specs.declared.Written.the-variants.{Length};
 ghost use Rattle.report.specs.Buffer.{bufferAfter};
-ghost use Rattle.input.specs.Input.{reportOf};
+ghost use Rattle.input.specs.Input.{reportOf, reportOfFiles};
+pub use files::FileRead;
+pub use files::bytes_read;
+pub use files::is_failed;
+pub use files::read_argument;
 use libc::STDOUT_FILENO;
 use report::Written;
 
@@ -12,6 +20,19 @@ pub fn input_room() -> [u8; 65610]
     ensures { λ r. ⌜ r ≡ replicate 65610 0 ⌝ }
 {
     [0; 65610]
+}
+
+// The same for a card and a pack in files of their own (`enough-of-files`).
+pub fn card_room() -> [u8; 74]
+    ensures { λ r. ⌜ r ≡ replicate 74 0 ⌝ }
+{
+    [0; 74]
+}
+
+pub fn pack_room() -> [u8; 65537]
+    ensures { λ r. ⌜ r ≡ replicate 65537 0 ⌝ }
+{
+    [0; 65537]
 }
 
 // Room for the longest report.
@@ -26,9 +47,26 @@ pub fn report_on(input: &[u8], room: &mut [u8])
     ensures { λ _. ⌜ now (room .exit) ≡ bufferAfter (reportOf (now (input .entry))) (now (room .entry)) ⌝ }
 {
     let written = input::report_input(input, room);
+    show(written, room);
+}
+
+// The same on a card's file and a pack's.
+pub fn report_on_files(card: &[u8], pack: &[u8], room: &mut [u8])
+    ensures { λ _. ⌜ now (room .exit) ≡ bufferAfter (reportOfFiles (now (card .entry)) (now (pack .entry))) (now (room .entry)) ⌝ }
+{
+    let written = input::report_files(card, pack, room);
+    show(written, room);
+}
+
+// A report that can't be written is told on standard error.
+fn show(written: Written, room: &[u8])
+    requires { ⌜ ((n : ℕ) → written ≡ Length n → n ≤ length (now room)) ⌝ }
+{
     match written {
         Written::Length(n) => {
-            io::write_all(STDOUT_FILENO, &room[..n]);
+            if !io::write_all(STDOUT_FILENO, &room[..n]) {
+                files::tell(b"the report was not written");
+            }
         }
         Written::TooSmall => {}
     }

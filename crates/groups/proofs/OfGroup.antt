@@ -90,6 +90,14 @@ one-kind Kill = refl
 one-kind Mova = refl
 one-kind Reduction = refl
 
+-- an issue that is tested to be plain is
+pub plain-if : (i : Issue) → isIssue i Plain ≡ true → i ≡ Plain
+plain-if Plain e = refl
+plain-if Predicate e = absurd (true≢false (sym e))
+plain-if Kill e = absurd (true≢false (sym e))
+plain-if Mova e = absurd (true≢false (sym e))
+plain-if Reduction e = absurd (true≢false (sym e))
+
 module _ (limits : Limits) (lo hi : PerInstruction) where
   pub seen-none : noneSeen ≡ seenOf limits lo hi 0
   unfolding seenOf literalsBelow firstBelow takenBy unitsBefore issuesOf issued anyReduction anyUneven countBelow anyBelow countOf

@@ -2,7 +2,7 @@
 use mathlib.Core.Path.{_≡_, refl}
 use mathlib.Core.List.{List, [], _∷_, _++_, map}
 use Prim.Native.Nat.{ℕ}
-use lib.ListN.{take}
+use lib.ListN.{take, drop}
 use Rattle.card.specs.Text.{text, firstLine, behindFirst, behind, lineOf, linesLength, beginsWith, sameAs, valueOf, valueAt, wordIn, allDigits, isDecimal, digitsValue, numberOf, numberIn}
 use Rattle.card.specs.Card.{cardWith, cardOf}
 use Rattle.card.specs.Made.{testOf}
@@ -15,7 +15,7 @@ use Rattle.report.specs.Report.{reportLines, reportBytes}
 use Rattle.report.specs.declared.ReportBuild.the-variants.{Unknown, Production, Debug}
 use Rattle.judge.specs.Judge.{judgement}
 use Rattle.input.specs.Words.{wordsIn}
-use Rattle.input.specs.Input.{answer, badLine, badLength, packVerdict, judgedOf, reportOf}
+use Rattle.input.specs.Input.{answer, badLine, badLength, packVerdict, judgedOf, judgedOfFiles, reportOf}
 use Rattle.input.specs.declared.Judged.{Judged}
 
 -- ---- bytes and words
@@ -71,6 +71,24 @@ inputs =
 inputs-judged : map (λ e. judgedOf (e .0)) inputs ≡ map (λ e. e .1) inputs
 unfolding judgedOf packVerdict testOf wordsIn cardOf firstLine behindFirst behind lineOf linesLength beginsWith sameAs valueOf valueAt wordIn allDigits isDecimal digitsValue numberOf numberIn
 inputs-judged = refl
+
+-- ---- files, and what is answered to them
+
+abbrev files : List (List ℕ × List ℕ × Judged)
+files =
+    (production, copyBytes, answer Production (judgement (cardWith Pixel build.Production 2 0 0 0 3) copyWords))
+    -- the pack's first eight bytes moved behind the card; an empty line there
+    ∷ (production ++ take 8 copyBytes, drop 8 copyBytes, answer Unknown (badLine 8))
+    ∷ (production ++ text "\n", copyBytes, answer Unknown (badLine 8))
+    -- a byte more in the pack; a card that ends too early, though the pack would go on with it; a wrong line, with bytes behind the card
+    ∷ (production, copyBytes ++ (0 ∷ []), answer Production badLength)
+    ∷ (take 64 production, drop 64 production ++ copyBytes, answer Unknown (badLine 7))
+    ∷ (copyCard (text "release") ++ text "\n", copyBytes, answer Unknown (badLine 2))
+    ∷ []
+
+files-judged : map (λ e. judgedOfFiles (e .0) (e .1)) files ≡ map (λ e. e .2) files
+unfolding judgedOfFiles packVerdict testOf wordsIn cardOf firstLine behindFirst behind lineOf linesLength beginsWith sameAs valueOf valueAt wordIn allDigits isDecimal digitsValue numberOf numberIn
+files-judged = refl
 
 -- the report on nothing
 nothing-reported : reportOf [] ≡ text "build=unknown\nverdict=1\nplace=1\nslot=0\nrelease=no\n"

@@ -3,4 +3,5 @@ pub mod OfWords
 pub mod OfInput
 pub mod OfReading
 pub mod OfRelease
+pub mod OfBounds
 pub mod Examples

@@ -1,12 +1,13 @@
 -- The whole input: its length's test by division, and what each branch of the code answers. Assumes nothing.
 use mathlib.Core.Path.{_≡_, refl, ap, sym, _∙_}
 use mathlib.Core.Bool.{Bool, true, false, cond, not}
-use mathlib.Core.List.{List}
+use mathlib.Core.List.{List, _++_}
 use Prim.Native.Nat.{ℕ, _*_, _/_, _%_, _≤_}
 use native.Mathlib.Omega.{arith}
 use borrow.Author.Tests.{eq-eqb, ne-eqb, eqb-true, eqb-false, not-true, not-false}
 use lib.Dec.{eqb}
 use lib.ListN.{length, drop}
+use lib.Seq.{drop-append-seam}
 use Rattle.laws.proofs.OfTests.{same-test}
 use Rattle.units.specs.declared.Quadwords.{Quadwords}
 use Rattle.checks.specs.declared.Verdict.{Verdict}
@@ -18,14 +19,12 @@ use Rattle.card.specs.declared.CardRead.{CardRead}
 use Rattle.card.specs.declared.CardRead.the-variants as read
 use Rattle.card.specs.declared.CardTest.{CardTest}
 use Rattle.card.specs.declared.CardTest.the-variants as test
-use Rattle.card.proofs.OfCard.{whole-length, whole-in-range, range-figures}
-use Rattle.report.specs.Report.{reportBytes}
-use Rattle.report.specs.declared.ReportBuild.{ReportBuild}
-use Rattle.report.specs.declared.ReportBuild.the-variants as report
+use Rattle.card.proofs.OfCard.{whole-length, whole-in-range, whole-all, range-figures}
+use Rattle.card.proofs.OfBehind.{card-ahead}
 use Rattle.judge.specs.Judge.{judgement}
 use Rattle.judge.proofs.OfJudge as of-judge
 use Rattle.input.specs.Words.{wordsIn}
-use Rattle.input.specs.Input.{answer, shown, badLine, badLength, rightLength, byTest, packVerdict, behindCard, judgedOf, reportOf}
+use Rattle.input.specs.Input.{shown, badLine, badLength, rightLength, byTest, packVerdict, judgedBy, withoutCard, behindCard, judgedOf, besideCard, judgedOfFiles, SevenLines, reportOn, reportOf, reportOfFiles}
 use Rattle.input.specs.declared.Judged.{Judged}
 
 -- ---- the length
@@ -92,29 +91,66 @@ as-judged card pack h = by-test (testOf card) refl h
 pub shown-as-told : {build told : Build} → build ≡ told → shown told ≡ shown build
 shown-as-told e = sym (ap shown e)
 
-module _ (input : List ℕ) {known : CardRead} (told : known ≡ cardOf input) where
+-- what was read of a card's bytes, as the code knows it
+module _ (text : List ℕ) {known : CardRead} (told : known ≡ cardOf text) where
   -- a line is at fault
-  pub bad-line-answer : {n : ℕ} {verdict : Verdict} → known ≡ read.BadLine n → verdict ≡ badLine n
-      → answer report.Unknown verdict ≡ judgedOf input
-  unfolding judgedOf
-  bad-line-answer h v = ap (answer report.Unknown) v ∙ ap (behindCard input) (sym h ∙ told)
+  module _ {n : ℕ} {judged : Judged} (h : known ≡ read.BadLine n) (v : judged ≡ withoutCard n) where
+    pub bad-line-answer : judged ≡ judgedOf text
+    unfolding judgedOf
+    bad-line-answer = v ∙ ap (behindCard text) (sym h ∙ told)
+
+    pub bad-line-beside : (pack : List ℕ) → judged ≡ judgedOfFiles text pack
+    unfolding judgedOfFiles
+    bad-line-beside pack = v ∙ ap (besideCard text pack) (sym h ∙ told)
 
   -- the card is whole
   module _ {card : Card} {taken : ℕ} (h : known ≡ read.Whole card taken) where
-    pub taken-within : taken ≤ length input
-    taken-within = whole-length input card taken (sym told ∙ h)
+    pub taken-within : taken ≤ length text
+    taken-within = whole-length text card taken (sym told ∙ h)
 
     pub read-in-range : testOf card ≡ test.InRange
-    read-in-range = whole-in-range input card taken (sym told ∙ h)
+    read-in-range = whole-in-range text card taken (sym told ∙ h)
 
-    pub whole-answer : {pack : List ℕ} {build : ReportBuild} {verdict : Verdict} → pack ≡ drop taken input
-        → build ≡ shown (card .build) → verdict ≡ packVerdict card pack → answer build verdict ≡ judgedOf input
+    pub whole-answer : {pack : List ℕ} {judged : Judged} → pack ≡ drop taken text → judged ≡ judgedBy card pack → judged ≡ judgedOf text
     unfolding judgedOf
-    whole-answer p b v =
-        (λ i. answer (b i) ((v ∙ ap (packVerdict card) p) i)) ∙ ap (behindCard input) (sym h ∙ told)
+    whole-answer p v = v ∙ ap (judgedBy card) p ∙ ap (behindCard text) (sym h ∙ told)
+
+    module _ (pack : List ℕ) where
+      -- by whether it is all of its file
+      beside-by : (x : Bool) → eqb taken (length text) ≡ x → cond x (judgedBy card pack) (withoutCard 8) ≡ judgedOfFiles text pack
+      unfolding judgedOfFiles
+      beside-by x e = ap (λ (t : Bool). cond t (judgedBy card pack) (withoutCard 8)) (sym e) ∙ ap (besideCard text pack) (sym h ∙ told)
+
+      pub beside-answer : {judged : Judged} → taken ≡ length text → judged ≡ judgedBy card pack → judged ≡ judgedOfFiles text pack
+      beside-answer e v = v ∙ beside-by true (eq-eqb taken (length text) e)
+
+      pub more-behind : {judged : Judged} → (taken ≡ length text → ⊥) → judged ≡ withoutCard 8 → judged ≡ judgedOfFiles text pack
+      more-behind e v = v ∙ beside-by false (ne-eqb taken (length text) e)
+
+-- ---- a file of seven lines: the answer is that to the two files one behind the other
+pub seven-lines : (text pack : List ℕ) → SevenLines text → judgedOfFiles text pack ≡ judgedOf (text ++ pack)
+unfolding judgedOfFiles judgedOf
+seven-lines text pack s =
+    by (cardOf text) refl ∙ sym (ap (behindCard (text ++ pack)) (card-ahead text pack (s .seventh) (s .is-there)))
+  where
+    by : (known : CardRead) → cardOf text ≡ known → besideCard text pack known ≡ behindCard (text ++ pack) known
+    by (read.Whole card n) e =
+        let l : n ≡ length text = whole-all text card n e (s .is-last) in
+        rw (eq-eqb n (length text) l)
+        (ap (judgedBy card) (sym (drop-append-seam text pack) ∙ ap (λ (k : ℕ). drop k (text ++ pack)) (sym l)))
+    by (read.BadLine n) e = refl
 
 -- ---- the report
 
-pub report-on : (input : List ℕ) (judged : Judged) → judged ≡ judgedOf input → reportBytes (judged .build) (judged .verdict) ≡ reportOf input
+pub report-on : (input : List ℕ) (judged : Judged) → judged ≡ judgedOf input → reportOn judged ≡ reportOf input
 unfolding reportOf
-report-on input judged e = ap (λ (j : Judged). reportBytes (j .build) (j .verdict)) e
+report-on input judged e = ap reportOn e
+
+pub report-on-files : (text pack : List ℕ) (judged : Judged) → judged ≡ judgedOfFiles text pack → reportOn judged ≡ reportOfFiles text pack
+unfolding reportOfFiles
+report-on-files text pack judged e = ap reportOn e
+
+pub seven-lines-report : (text pack : List ℕ) → SevenLines text → reportOfFiles text pack ≡ reportOf (text ++ pack)
+seven-lines-report text pack s =
+    sym (report-on-files text pack (judgedOfFiles text pack) refl)
+    ∙ report-on (text ++ pack) (judgedOfFiles text pack) (seven-lines text pack s)

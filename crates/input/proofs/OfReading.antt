@@ -1,14 +1,15 @@
--- How much of an input has to be read: a card is read the same from the first 73 bytes, and with a byte more than the longest pack
--- behind them the answer is that to the whole input. Assumes nothing.
+-- How much of an input, and of files, has to be read: a card is read the same from the first 73 bytes, and with a byte more than the
+-- longest pack behind them, or in its own file, the answer is that to the whole. Assumes nothing.
 use mathlib.Core.Path.{_≡_, refl, ap, sym, _∙_}
-use mathlib.Core.Bool.{Bool, true, false}
+use mathlib.Core.Bool.{Bool, true, false, cond}
 use mathlib.Core.List.{List}
-use Prim.Native.Nat.{ℕ, _≤_}
+use Prim.Native.Nat.{ℕ, _-_, _≤_}
 use native.Mathlib.Omega.{arith}
-use borrow.Author.Tests.{ltb-true, ltb-false}
-use lib.Dec.{ltb}
-use lib.ListN.{length, take, drop, length-drop, length-take}
+use borrow.Author.Tests.{eq-eqb, ne-eqb, eqb-true, eqb-false, ltb-true, ltb-false}
+use lib.Dec.{eqb, ltb}
+use lib.ListN.{length, take, drop, length-take}
 use lib.Seq.{take-all}
+use Rattle.laws.proofs.OfTests.{same-test}
 use Rattle.card.specs.Card.{cardOf}
 use Rattle.card.specs.Made.{testOf}
 use Rattle.card.specs.declared.CardRead.{CardRead}
@@ -16,47 +17,65 @@ use Rattle.card.specs.declared.CardRead.the-variants.{Whole, BadLine}
 use Rattle.card.specs.declared.CardTest.the-variants.{InRange}
 use Rattle.card.specs.declared.Card.{Card}
 use Rattle.card.proofs.OfCard.{whole-in-range, range-figures}
-use Rattle.card.proofs.OfCut.{card-cut, whole-short}
-use Rattle.input.specs.Input.{answer, shown, badLength, packVerdict, behindCard, judgedOf, reportOf}
-use Rattle.input.proofs.OfInput.{wrong-length, bad-length, report-on}
+use Rattle.card.proofs.OfCut.{drop-take, card-cut, whole-short}
+use Rattle.input.specs.Input.{answer, shown, badLength, packVerdict, withoutCard, behindCard, judgedOf, besideCard, judgedOfFiles, reportOf, reportOfFiles}
+use Rattle.input.proofs.OfInput.{wrong-length, bad-length, report-on, report-on-files}
 
--- the card read, the answer is the same to two inputs where what stands behind it is judged the same
-same-behind : (input other : List ℕ)
-    → ((card : Card) (n : ℕ) → cardOf input ≡ Whole card n → packVerdict card (drop n other) ≡ packVerdict card (drop n input))
-    → behindCard other (cardOf input) ≡ behindCard input (cardOf input)
-same-behind input other h = by (cardOf input) refl
+-- ---- the pack
+
+-- no card allows a pack of 65,537 bytes
+too-long : (card : Card) → testOf card ≡ InRange → (pack : List ℕ) → 65537 ≤ length pack → badLength ≡ packVerdict card pack
+too-long card in-range pack l =
+    let r = range-figures card in-range in
+    bad-length card pack in-range (wrong-length (card .quads) (length pack) (λ k. omega (arith, r .quads-most))) refl refl
+
+-- a pack that is cut behind so many is judged the same
+pack-cut : (card : Card) → testOf card ≡ InRange → (pack : List ℕ) (all : ℕ) → 65537 ≤ all → packVerdict card (take all pack) ≡ packVerdict card pack
+pack-cut card in-range pack all h = by (ltb all (length pack)) refl
   where
-    by : (known : CardRead) → cardOf input ≡ known → behindCard other known ≡ behindCard input known
-    by (Whole card n) e = ap (answer (shown (card .build))) (h card n e)
-    by (BadLine n) e = refl
-
--- a pack behind a card, cut: it is the whole, or both are longer than any card allows
-pack-cut : (s : List ℕ) (all : ℕ) → 65610 ≤ all → (card : Card) (n : ℕ) → cardOf s ≡ Whole card n
-    → packVerdict card (drop n (take all s)) ≡ packVerdict card (drop n s)
-pack-cut s all h card n e = by (ltb all (length s)) refl
-  where
-    in-range : testOf card ≡ InRange
-    in-range = whole-in-range s card n e
-
-    too-long : (pack : List ℕ) → 65537 ≤ length pack → badLength ≡ packVerdict card pack
-    too-long pack l =
-        let r = range-figures card in-range in
-        bad-length card pack in-range (wrong-length (card .quads) (length pack) (λ k. omega (arith, r .quads-most))) refl refl
-
-    by : (x : Bool) → ltb all (length s) ≡ x → packVerdict card (drop n (take all s)) ≡ packVerdict card (drop n s)
+    by : (x : Bool) → ltb all (length pack) ≡ x → packVerdict card (take all pack) ≡ packVerdict card pack
     by true l =
-        let w = ltb-true all (length s) l in
-        let k = whole-short s card n e in
-        sym (too-long (drop n (take all s)) (omega (arith, length-drop n (take all s), length-take all s)))
-        ∙ too-long (drop n s) (omega (arith, length-drop n s))
-    by false l = ap (λ (u : List ℕ). packVerdict card (drop n u)) (take-all all s (ltb-false all (length s) l))
+        let w = ltb-true all (length pack) l in
+        sym (too-long card in-range (take all pack) (omega (arith, length-take all pack))) ∙ too-long card in-range pack (omega arith)
+    by false l = ap (packVerdict card) (take-all all pack (ltb-false all (length pack) l))
+
+-- ---- one behind the other
 
 -- 65,610 bytes are enough to read: one more than the longest card and the longest pack have
 pub enough-read : (input : List ℕ) (all : ℕ) → 65610 ≤ all → judgedOf (take all input) ≡ judgedOf input
 unfolding judgedOf
-enough-read input all h =
-    ap (behindCard (take all input)) (card-cut input all (omega arith)) ∙ same-behind input (take all input) (pack-cut input all h)
+enough-read input all h = ap (behindCard (take all input)) (card-cut input all (omega arith)) ∙ by (cardOf input) refl
+  where
+    by : (known : CardRead) → cardOf input ≡ known → behindCard (take all input) known ≡ behindCard input known
+    by (Whole card n) e =
+        let short = whole-short input card n e in
+        ap (answer (shown (card .build)))
+        (ap (packVerdict card) (drop-take n all input) ∙ pack-cut card (whole-in-range input card n e) (drop n input) (all - n) (omega arith))
+    by (BadLine n) e = refl
 
 -- so a program that reads so many bytes writes the report on its whole input
 pub enough : (input : List ℕ) → reportOf (take 65610 input) ≡ reportOf input
 enough input = sym (report-on (take 65610 input) (judgedOf input) (sym (enough-read input 65610 (omega arith)))) ∙ report-on input (judgedOf input) refl
+
+-- ---- each in a file
+
+-- 74 bytes of the card's file are enough, one more than the longest card has, and 65,537 of the pack's
+pub enough-of-files : (text pack : List ℕ) (some all : ℕ) → 74 ≤ some → 65537 ≤ all → judgedOfFiles (take some text) (take all pack) ≡ judgedOfFiles text pack
+unfolding judgedOfFiles
+enough-of-files text pack some all h k =
+    ap (besideCard (take some text) (take all pack)) (card-cut text some (omega arith)) ∙ by (cardOf text) refl
+  where
+    by : (known : CardRead) → cardOf text ≡ known → besideCard (take some text) (take all pack) known ≡ besideCard text pack known
+    by (Whole card n) e =
+        let short = whole-short text card n e in
+        let same : eqb n (length (take some text)) ≡ eqb n (length text) =
+        same-test (eqb n (length (take some text))) (eqb n (length text))
+        (λ t. eq-eqb n (length (take some text)) (omega (arith, eqb-true n (length text) t, length-take some text)))
+        (λ t. ne-eqb n (length (take some text)) (λ q. eqb-false n (length text) t (omega (arith, length-take some text)))) in
+        λ i. cond (same i) (answer (shown (card .build)) (pack-cut card (whole-in-range text card n e) pack all k i)) (withoutCard 8)
+    by (BadLine n) e = refl
+
+pub files-enough : (text pack : List ℕ) → reportOfFiles (take 74 text) (take 65537 pack) ≡ reportOfFiles text pack
+files-enough text pack =
+    sym (report-on-files (take 74 text) (take 65537 pack) (judgedOfFiles text pack) (sym (enough-of-files text pack 74 65537 (omega arith) (omega arith))))
+    ∙ report-on-files text pack (judgedOfFiles text pack) refl

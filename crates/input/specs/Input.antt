@@ -1,8 +1,10 @@
--- The whole input, a card and behind it a pack, and what is answered to it: document 01, "What the judge reads", with the numbers 1
--- and 2 of "Numbers and what they mean". Every other number is the judge's.
+-- A card and a pack, one behind the other or each in a file, and what is answered to them: document 01, "What the judge reads", with the
+-- numbers 1 and 2 of "Numbers and what they mean". Every other number is the judge's.
 use Prim.Native.Nat.{ℕ, _*_}
+use mathlib.Core.Path.{_≡_}
 use mathlib.Core.Bool.{Bool, cond}
-use mathlib.Core.List.{List}
+use mathlib.Core.List.{List, []}
+use mathlib.Core.Option.{some}
 use lib.Dec.{eqb}
 use lib.ListN.{length, drop}
 use Rattle.units.specs.Units.{slots}
@@ -10,6 +12,7 @@ use Rattle.units.specs.declared.Quadwords.{Quadwords}
 use Rattle.checks.specs.declared.Place.the-variants as place
 use Rattle.checks.specs.declared.Verdict.{Verdict}
 use Rattle.checks.specs.declared.Verdict.the-variants.{Refused}
+use Rattle.card.specs.Text.{behind, lineOf}
 use Rattle.card.specs.Card.{cardOf}
 use Rattle.card.specs.Made.{testOf}
 use Rattle.card.specs.declared.Build.{Build}
@@ -62,15 +65,48 @@ packVerdict card pack = byTest card pack (testOf card)
 
 -- ---- the card and the pack
 
--- where the card is read, its build and the verdict on what stands behind it; else 1, with the build unknown
+-- by a card that was read: its build, and the verdict on the pack
+abbrev pub judgedBy : Card → List ℕ → Judged
+judgedBy card pack = answer (shown (card .build)) (packVerdict card pack)
+
+-- by no card: 1, with the build unknown
+abbrev pub withoutCard : ℕ → Judged
+withoutCard n = answer report.Unknown (badLine n)
+
+-- one behind the other, as the program reads them from standard input: what stands behind the card is the pack
 abbrev pub behindCard : List ℕ → CardRead → Judged
-behindCard input (read.Whole card taken) = answer (shown (card .build)) (packVerdict card (drop taken input))
-behindCard input (read.BadLine n) = answer report.Unknown (badLine n)
+behindCard input (read.Whole card taken) = judgedBy card (drop taken input)
+behindCard input (read.BadLine n) = withoutCard n
 
 -- what is answered to an input
 unfoldable pub judgedOf : List ℕ → Judged
 judgedOf input = behindCard input (cardOf input)
 
+-- each in a file of its own: in the card's nothing stands behind the seven lines, or else it is 1 at the line behind them
+abbrev pub besideCard : List ℕ → List ℕ → CardRead → Judged
+besideCard text pack (read.Whole card taken) = cond (eqb taken (length text)) (judgedBy card pack) (withoutCard 8)
+besideCard text pack (read.BadLine n) = withoutCard n
+
+-- what is answered to a card's file and a pack's
+unfoldable pub judgedOfFiles : List ℕ → List ℕ → Judged
+judgedOfFiles text pack = besideCard text pack (cardOf text)
+
+-- a card's file that has its seven lines, each ended by its line feed, and nothing behind them
+pub record SevenLines (text : List ℕ) : Type 0 where
+  pub seventh : List ℕ
+  pub is-there : lineOf 7 text ≡ some seventh
+  pub is-last : behind 7 text ≡ []
+
+-- ---- the report
+
+-- the report on an answer
+abbrev pub reportOn : Judged → List ℕ
+reportOn judged = reportBytes (judged .build) (judged .verdict)
+
 -- the report on an input
 unfoldable pub reportOf : List ℕ → List ℕ
-reportOf input = reportBytes (judgedOf input .build) (judgedOf input .verdict)
+reportOf input = reportOn (judgedOf input)
+
+-- the report on a card's file and a pack's
+unfoldable pub reportOfFiles : List ℕ → List ℕ → List ℕ
+reportOfFiles text pack = reportOn (judgedOfFiles text pack)

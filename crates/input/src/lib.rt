@@ -1,8 +1,9 @@
-// The whole input: a card and behind it a pack, as bytes, and the answer to it.
+// A card and a pack as bytes, one behind the other or each by itself, and the answer to them.
 //
 // The pack's words are read off the bytes once, into room of this crate's own, and judged there: a caller lends nothing but the
 // buffer for the report.
 ghost use mathlib.Core.Path.{_≡_};
+ghost use mathlib.Core.List.{_++_};
 ghost use Prim.Native.Nat.{ℕ, _/_, _≤_};
 ghost use lib.ListN.{length, take};
 ghost use Rattle.units.specs.Units as counts;
@@ -13,8 +14,8 @@ ghost use Rattle.report.specs.declared.Written.the-variants.{Length};
 ghost use Rattle.report.specs.Buffer.{writtenOf, bufferAfter};
 ghost use Rattle.judge.specs.Judge.{judgement};
 ghost use Rattle.input.specs.Words.{wordsIn};
-ghost use Rattle.input.specs.Input.{shown, rightLength, packVerdict, judgedOf, reportOf};
-ghost use Rattle.input.specs.Released.{ReleaseTold};
+ghost use Rattle.input.specs.Input.{shown, rightLength, packVerdict, judgedBy, withoutCard, judgedOf, judgedOfFiles, SevenLines, reportOf, reportOfFiles};
+ghost use Rattle.input.specs.Released.{ReleaseTold, FilesTold};
 
 mod words;
 
@@ -41,18 +42,26 @@ pub fn judge_input(input: &[u8]) -> Judged
 {
     let read = card::read_card(input);
     match read {
+        CardRead::Whole(card, taken) => judged_by(card, &input[taken..]),
+        CardRead::BadLine(n) => without_card(n),
+    }
+}
+
+// Judges a card's file and a pack's. Bytes behind the card's seventh line are refused as an eighth; for a file of seven lines the answer
+// is that to the two files one behind the other.
+pub fn judge_files(text: &[u8], pack: &[u8]) -> Judged
+    ensures { λ r. ⌜ r ≡ judgedOfFiles (now (text .entry)) (now (pack .entry)) ⌝ }
+    ensures { λ r. ⌜ (SevenLines (now (text .entry)) → r ≡ judgedOf (now (text .entry) ++ now (pack .entry))) ⌝ }
+{
+    let read = card::read_card(text);
+    match read {
         CardRead::Whole(card, taken) => {
-            let build = card.build;
-            let verdict = verdict_in_range(card, &input[taken..]);
-            Judged {
-                build: shown_build(build),
-                verdict,
+            if taken != text.len() {
+                return without_card(8);
             }
+            judged_by(card, pack)
         }
-        CardRead::BadLine(n) => Judged {
-            build: ReportBuild::Unknown,
-            verdict: refused(1, Place::Line(n)),
-        },
+        CardRead::BadLine(n) => without_card(n),
     }
 }
 
@@ -64,6 +73,21 @@ pub fn report_input(input: &[u8], out: &mut [u8]) -> Written
     ensures { λ r. ⌜ ((n : ℕ) → r ≡ Length n → ReleaseTold (now (input .entry)) (take n (now (out .exit)))) ⌝ }
 {
     let judged = judge_input(input);
+    let build = judged.build;
+    let verdict = judged.verdict;
+    report::write_report(build, verdict, out)
+}
+
+// Judges a card's file and a pack's and writes the report to the start of `out`; where it does not fit, `out` stays as it was. The bytes
+// written say release=yes exactly if the one file is a production card and the other a pack that the judge accepts, and then every walk
+// of the pack is safe.
+pub fn report_files(text: &[u8], pack: &[u8], out: &mut [u8]) -> Written
+    ensures { λ r. ⌜ r ≡ writtenOf (reportOfFiles (now (text .entry)) (now (pack .entry))) (now (out .entry)) ⌝ }
+    ensures { λ _. ⌜ now (out .exit) ≡ bufferAfter (reportOfFiles (now (text .entry)) (now (pack .entry))) (now (out .entry)) ⌝ }
+    ensures { λ r. ⌜ ((n : ℕ) → r ≡ Length n → FilesTold (now (text .entry)) (now (pack .entry)) (take n (now (out .exit)))) ⌝ }
+    ensures { λ _. ⌜ (SevenLines (now (text .entry)) → reportOfFiles (now (text .entry)) (now (pack .entry)) ≡ reportOf (now (text .entry) ++ now (pack .entry))) ⌝ }
+{
+    let judged = judge_files(text, pack);
     let build = judged.build;
     let verdict = judged.verdict;
     report::write_report(build, verdict, out)
@@ -89,6 +113,28 @@ fn verdict_in_range(card: Card, pack: &[u8]) -> Verdict
         return refused(2, Place::Whole);
     }
     judge_words(card, pack)
+}
+
+// What is answered by a card that was read, whose figures are in range.
+fn judged_by(card: Card, pack: &[u8]) -> Judged
+    requires { ⌜ testOf card ≡ InRange ⌝ }
+    ensures { λ r. ⌜ r ≡ judgedBy card (now (pack .entry)) ⌝ }
+{
+    let build = card.build;
+    let verdict = verdict_in_range(card, pack);
+    Judged {
+        build: shown_build(build),
+        verdict,
+    }
+}
+
+fn without_card(line: usize) -> Judged
+    ensures { λ r. ⌜ r ≡ withoutCard line ⌝ }
+{
+    Judged {
+        build: ReportBuild::Unknown,
+        verdict: refused(1, Place::Line(line)),
+    }
 }
 
 // By division, since 8 times any quads may be more than a number holds.

@@ -5,7 +5,6 @@ use Prim.Native.Nat.{ℕ, zero, suc, _≤_, _<_, _^_}
 use mathlib.Core.Path.{_≡_, refl, subst}
 use mathlib.Core.Bool.{Bool, true, false, cond}
 use mathlib.Core.List.{List, [], _∷_, _++_}
-use mathlib.Core.Option.{Option, none, some}
 use native.Mathlib.Nat.{le-refl, le-step}
 use native.Mathlib.Omega.{arith}
 use borrow.Author.Tests.{ltb-true}
@@ -21,8 +20,8 @@ use Rattle.card.specs.declared.Card.{Card}
 use Rattle.card.specs.declared.CardRead.{CardRead}
 use Rattle.card.specs.declared.CardRead.the-variants as read
 use Rattle.card.specs.declared.Kind.{Kind}
-use Rattle.card.specs.Text.{wordIn, numberIn}
-use Rattle.card.specs.Card.{kinds, builds, gprsAllowed, tempsAllowed, constsAllowed, stackAllowed, quadsAllowed, lineSays, judged, _>>=_, figureTests, cardOf}
+use Rattle.card.specs.Card.{figureTests, cardOf}
+use Rattle.card.proofs.OfCard.{bad-line}
 use Rattle.grants.specs.declared.Limits.{Limits}
 use Rattle.fetches.specs.Fetches as fetches
 use Rattle.groups.specs.Group.{PerInstruction, eachOf, ruleChecks}
@@ -220,7 +219,7 @@ in-checks card w =
     (in-passes card w (endOf w) (omega (arith, end-at-most w)))))
 
 -- a refusal names a check of the list
-judgement-narrow : (card : Card) (w : List ℕ) → Narrow (judgement card w)
+pub judgement-narrow : (card : Card) (w : List ℕ) → Narrow (judgement card w)
 judgement-narrow card w = by (judgement card w) refl
   where
     by : (v : Verdict) → judgement card w ≡ v → Narrow v
@@ -230,38 +229,15 @@ judgement-narrow card w = by (judgement card w) refl
         let h = inside-list (b .earlier) (b .later) (check r p s true) (subst AllNarrow (b .parts) (in-checks card w)) in
         record { number = h .rule .1; refused = λ z. absurd (omega (arith, h .rule .0)); place = h .place; slot = h .slot }
 
--- the line at fault of a card in bytes
-data Refers : CardRead → Type 0 where
-  bad : {n : ℕ} → n < 2 ^ 16 → Refers (read.BadLine n)
-  whole : {card : Card} {n : ℕ} → Refers (read.Whole card n)
-
-at-line : {A : Type 0} (n : ℕ) (o : Option A) (f : A → CardRead) → n < 2 ^ 16 → ((a : A) → Refers (f a)) → Refers (judged n o >>= f)
-at-line n none f l h = bad l
-at-line n (some a) f l h = h a
-
-read-refers : (bytes : List ℕ) → Refers (cardOf bytes)
-unfolding cardOf
-read-refers bytes =
-    at-line 1 (lineSays bytes 1 "kind" (wordIn kinds)) _ (omega arith)
-    (λ kind.
-    at-line 2 (lineSays bytes 2 "build" (wordIn builds)) _ (omega arith)
-    (λ build.
-    at-line 3 (lineSays bytes 3 "gprs" (numberIn gprsAllowed)) _ (omega arith)
-    (λ gprs.
-    at-line 4 (lineSays bytes 4 "temps" (numberIn (tempsAllowed gprs))) _ (omega arith)
-    (λ temps.
-    at-line 5 (lineSays bytes 5 "consts" (numberIn constsAllowed)) _ (omega arith)
-    (λ consts.
-    at-line 6 (lineSays bytes 6 "stack" (numberIn stackAllowed)) _ (omega arith)
-    (λ stack.
-    at-line 7 (lineSays bytes 7 "quads" (numberIn quadsAllowed)) _ (omega arith) (λ quads. whole)))))))
+-- a line at fault
+pub line-narrow : (n : ℕ) → n < 2 ^ 16 → Narrow (Refused 1 (Line n) (slots 0))
+line-narrow n h = record { number = omega arith; refused = λ z. absurd (omega arith); place = h; slot = omega arith }
 
 -- few bits hold the number, the place and the slot of every verdict on a card in bytes
 pub bytes-narrow : (bytes w : List ℕ) → Narrow (judgementOfBytes bytes w)
 unfolding judgementOfBytes
-bytes-narrow bytes w = by (cardOf bytes) (read-refers bytes)
+bytes-narrow bytes w = by (cardOf bytes) refl
   where
-    by : (r : CardRead) → Refers r → Narrow (readJudgement r w)
-    by (read.BadLine n) (bad l) =
-        record { number = omega arith; refused = λ z. absurd (omega arith); place = l; slot = omega arith }
-    by (read.Whole card n) whole = judgement-narrow card w
+    by : (r : CardRead) → cardOf bytes ≡ r → Narrow (readJudgement r w)
+    by (read.BadLine n) e = line-narrow n (omega (arith, bad-line bytes n e .1))
+    by (read.Whole card n) e = judgement-narrow card w

@@ -1,4 +1,5 @@
-// The judge for C and Rust to link, by `rt staticlib exports`. The codec is in crate values.
+// The judge on words for C and Rust to link, by `rt staticlib judge_for_c`. The judge on files is in crate files_for_c, the codec in
+// codec_for_c: each is an archive of its own, since in one with the others the compiler would no longer inline the judge into its one caller.
 //
 // A slice is passed as a pointer and a length. A verdict comes back as one number (specs/Packed.antt).
 use checks::Verdict;
@@ -8,23 +9,23 @@ ghost use Rattle.judge.specs.Safe.{SafelyRead};
 ghost use Rattle.judge_for_c.specs.Packed.{packed, ReadBack};
 
 // The verdict on a pack by a card in bytes. Its number, place and slot stand in the answer uncut; and where the answer is 0, every walk of
-// the pack is safe.
+// the pack is safe. Of release it says nothing.
 #[no_mangle]
 pub extern "C" fn zlatomruk_judge(card: &[u8], words: &[u32]) -> u64
-    ensures { λ r. ⌜ r ≡ packed (judgementOfBytes (now (card .entry)) (now (words .entry))) ⌝ }
-    ensures { λ r. ⌜ ReadBack (judgementOfBytes (now (card .entry)) (now (words .entry))) r ⌝ }
+    ensures { λ r. ⌜ r ≡ packed (judgementOfBytes (now (card .entry)) (now (words .entry))) 0 ⌝ }
+    ensures { λ r. ⌜ ReadBack (judgementOfBytes (now (card .entry)) (now (words .entry))) 0 r ⌝ }
     ensures { λ r. ⌜ (r ≡ 0 → SafelyRead (now (card .entry)) (now (words .entry))) ⌝ }
 {
     let v = judge::judge_bytes(card, words);
-    packed_number(v)
+    packed_number(v, 0)
 }
 
 // As a row of fields. Every number is a byte; places and slots are cut here, and bounded by the judge's laws.
-fn packed_number(v: Verdict) -> u64
-    ensures { λ r. ⌜ r ≡ packed v ⌝ }
+pub fn packed_number(v: Verdict, bit: u64) -> u64
+    ensures { λ r. ⌜ r ≡ packed v bit ⌝ }
 {
     let number = checks::verdict_number(v) as u64;
     let place = (checks::verdict_place(v) % 0x1_0000) as u64;
     let slot = (checks::verdict_slot(v) % 0x1_0000) as u64;
-    number + (place * 0x1_0000 + slot * 0x1_0000_0000)
+    number + (place * 0x1_0000 + (slot * 0x1_0000_0000 + bit % 2 * 0x1_0000_0000_0000))
 }

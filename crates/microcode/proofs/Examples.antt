@@ -21,7 +21,7 @@ use Rattle.formats.specs.CfAlu as cfAluFormat
 use Rattle.formats.specs.Export as exportFormat
 use Rattle.formats.specs.Alu as aluFormat
 use Rattle.microcode.specs.Pair.{openerPairOf, plainPairOf, cfPairOf, op2PairOf, op3PairOf, aluPairOf, encodable}
-use Rattle.microcode.specs.Buffer.{room, decodeOf, decodedVerdict, encodeAnswer, encodeWords}
+use Rattle.microcode.specs.Buffer.{room, decodeOf, decodedVerdict, encodeAnswer, writeAnswer, writeWords, encodeWords}
 
 pub record Shown : Type 0 where
   pub form : String
@@ -137,7 +137,7 @@ wide : Instruction
 wide = CfAlu (record { addr = quadwords 0x40_0000; «kcache_bank0» = 0; «kcache_bank1» = 0; «kcache_mode0» = 0 }) (cfAluFormat.word1Of 0xa000_0000)
 
 wide-refused : (encodeAnswer wide (7 ∷ 7 ∷ 7 ∷ []) (words 1) ≡ NoRecord) × (encodeWords wide (7 ∷ 7 ∷ 7 ∷ []) (words 1) ≡ 7 ∷ 7 ∷ 7 ∷ [])
-unfolding wide encodeAnswer encodeWords room cfAluControl cfAlu cfAluFormat.word0Table cfAluFormat.word1Table
+unfolding wide writeAnswer writeWords room cfAluControl cfAlu cfAluFormat.word0Table cfAluFormat.word1Table
 wide-refused = (refl, refl)
 
 -- the copy pack's opener, written from word 1 of three on: the first stays; at 2 it does not fit
@@ -145,5 +145,5 @@ opener : Instruction
 opener = CfAlu (cfAluFormat.word0Of 0x0000_0002) (cfAluFormat.word1Of 0xa000_0000)
 
 written : (encodeAnswer opener (7 ∷ 7 ∷ 7 ∷ []) (words 1) ≡ Done) × (encodeWords opener (7 ∷ 7 ∷ 7 ∷ []) (words 1) ≡ 7 ∷ 2 ∷ 0xa000_0000 ∷ []) × (encodeAnswer opener (7 ∷ 7 ∷ 7 ∷ []) (words 2) ≡ NoRoom) × (encodeWords opener (7 ∷ 7 ∷ 7 ∷ []) (words 2) ≡ 7 ∷ 7 ∷ 7 ∷ [])
-unfolding opener encodeAnswer encodeWords room cfAluControl cfAlu cfAluFormat.word0Table cfAluFormat.word1Table
+unfolding opener writeAnswer writeWords room cfAluControl cfAlu cfAluFormat.word0Table cfAluFormat.word1Table
 written = (refl, refl, refl, refl)

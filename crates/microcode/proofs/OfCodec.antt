@@ -18,9 +18,10 @@ use Rattle.microcode.specs.declared.Decoded.{Decoded}
 use Rattle.microcode.specs.declared.Decoded.the-variants.{Outside}
 use Rattle.microcode.specs.declared.Encoded.{Encoded}
 use Rattle.microcode.specs.declared.Encoded.the-variants.{NoRecord, NoRoom, Done}
+use Rattle.microcode.specs.declared.words.RecordWords.{RecordWords}
 use Rattle.microcode.specs.declared.Stream.{Stream}
-use Rattle.microcode.specs.Pair.{pairOf, encodable, lowOf, highOf}
-use Rattle.microcode.specs.Buffer.{room, decodeOf, encodeAnswer, encodeWords}
+use Rattle.microcode.specs.Pair.{pairOf, wordsOf}
+use Rattle.microcode.specs.Buffer.{room, decodeOf, encodeAnswer, encodeWords, writeAnswer, writeWords}
 use Rattle.microcode.specs.Code.{putAnswer, putWords}
 
 pub roomy : (l : List ℕ) (start : ℕ) → start + 2 ≤ length l → room l start ≡ true
@@ -98,27 +99,33 @@ module _ (a : ℕ) (l : List ℕ) (h : a ≤ length l) where
       by true = two-words a lo hi l
       by false = take-append-drop a l
 
-module _ (i : Instruction) (l : List ℕ) (start : Words) (t : Bool) (e : t ≡ encodable i) where
-  pub encode-refused : not t ≡ true → (NoRecord ≡ encodeAnswer i l start) × (l ≡ encodeWords i l start)
-  unfolding encodeAnswer encodeWords
-  encode-refused h = let k : encodable i ≡ false = sym e ∙ not-true t h in (rw k, rw k)
+module _ (w : RecordWords) (l : List ℕ) (start : Words) where
+  pub write-refused : not (w .«is_record») ≡ true → (NoRecord ≡ writeAnswer w l start) × (l ≡ writeWords w l start)
+  unfolding writeAnswer writeWords
+  write-refused h = let k = not-true (w .«is_record») h in (rw k, rw k)
 
-  pub encode-beyond : not t ≡ false → length l < start .0 → (NoRoom ≡ encodeAnswer i l start) × (l ≡ encodeWords i l start)
-  unfolding encodeAnswer encodeWords
-  encode-beyond h b =
-      let k : encodable i ≡ true = sym e ∙ not-false t h in
+  pub write-beyond : not (w .«is_record») ≡ false → length l < start .0 → (NoRoom ≡ writeAnswer w l start) × (l ≡ writeWords w l start)
+  unfolding writeAnswer writeWords
+  write-beyond h b =
+      let k = not-false (w .«is_record») h in
       let none : room l (start .0) ≡ false = cramped l (start .0) (omega arith) in
       (rw (k, none), rw (k, none))
 
-  pub encode-put : (lo hi : ℕ) (r : Encoded) (p : List ℕ) → not t ≡ false → start .0 ≤ length l → lo ≡ lowOf i → hi ≡ highOf i → r ≡ putAnswer (take (length l - start .0) (drop (start .0) l)) → p ≡ putWords lo hi (take (length l - start .0) (drop (start .0) l)) → (r ≡ encodeAnswer i l start) × (putMid (start .0) (length l - start .0) l p ≡ encodeWords i l start)
-  unfolding encodeAnswer encodeWords
-  encode-put lo hi r p h b f g x y =
+  pub write-put : (r : Encoded) (p : List ℕ) → not (w .«is_record») ≡ false → start .0 ≤ length l → r ≡ putAnswer (take (length l - start .0) (drop (start .0) l)) → p ≡ putWords (w .low) (w .high) (take (length l - start .0) (drop (start .0) l)) → (r ≡ writeAnswer w l start) × (putMid (start .0) (length l - start .0) l p ≡ writeWords w l start)
+  unfolding writeAnswer writeWords
+  write-put r p h b x y =
       let at = start .0 in
-      let k : encodable i ≡ true = sym e ∙ not-false t h in
+      let k = not-false (w .«is_record») h in
       let part = to-the-end at l in (
         rw k (x ∙ ap putAnswer part ∙ part-answer at l b),
         rw k
             (back-again at l p
-            ∙ ap (λ (q : List ℕ). take at l ++ q) (y ∙ (λ j. putWords (f j) (g j) (part j)))
-            ∙ part-words at l b (lowOf i) (highOf i)),
+            ∙ ap (λ (q : List ℕ). take at l ++ q) (y ∙ ap (putWords (w .low) (w .high)) part)
+            ∙ part-words at l b (w .low) (w .high)),
       )
+
+-- what is written of a record's words is what is encoded of the record
+pub written-record : (i : Instruction) (l : List ℕ) (start : Words) {w : RecordWords} {r : Encoded} {p : List ℕ} → w ≡ wordsOf i
+    → (r ≡ writeAnswer w l start) × (p ≡ writeWords w l start) → (r ≡ encodeAnswer i l start) × (p ≡ encodeWords i l start)
+written-record i l start e h =
+    (h .0 ∙ ap (λ (w : RecordWords). writeAnswer w l start) e, h .1 ∙ ap (λ (w : RecordWords). writeWords w l start) e)

@@ -17,7 +17,7 @@ use Rattle.microcode.specs.declared.Decoded.the-variants.{NotTaken, Take
 use Rattle.microcode.specs.declared.Stream.{Stream}
 use Rattle.microcode.specs.declared.Stream.the-variants.{ControlFlow, Alu}
 use Rattle.microcode.specs.Pair.{openerPairOf, plainPairOf, cfPairOf, op2PairOf, op3PairOf, aluPairOf, pairOf, cfNumberTaken, aluNumberTaken, numberTaken, encodable}
-use Rattle.microcode.specs.Buffer.{room, decodeOf, encodeAnswer, notTaken, refused, decodedVerdict, encodedVerdict, Answers, decodeNumber, encodeNumber}
+use Rattle.microcode.specs.Buffer.{room, decodeOf, encodeAnswer, writeAnswer, notTaken, refused, decodedVerdict, encodedVerdict, Answers, decodeNumber, encodeNumber}
 use Rattle.microcode.proofs.RoundTrip.{export-is-taken}
 
 accepted-0 : Answers Accepted 0
@@ -68,7 +68,7 @@ decode-number s l start =
     (λ t. rw t (refused-by 2))
 
 pub encode-number : (i : Instruction) (l : List ℕ) (start : Words) → Answers (encodedVerdict (encodeAnswer i l start)) (encodeNumber i l start)
-unfolding encodeAnswer encodeNumber
+unfolding writeAnswer encodeNumber
 encode-number i l start =
     by-test (encodable i)
     (λ t. by-test (room l (start .0)) (λ u. rw (t, u) accepted-0) (λ u. rw (t, u) (refused-by 20)))

@@ -42,7 +42,7 @@ use Rattle.formats.specs.CfAlu as cfAlu
 use Rattle.formats.specs.Export as export
 use Rattle.formats.specs.Alu as alu
 use Rattle.microcode.specs.Pair.{openerPairOf, plainPairOf, cfPairOf, op2PairOf, op3PairOf, aluPairOf, pairOf, streamOf, encodable, lowOf, highOf}
-use Rattle.microcode.specs.Buffer.{room, decodeOf, encodeAnswer, encodeWords, Rewritten}
+use Rattle.microcode.specs.Buffer.{room, decodeOf, encodeAnswer, writeAnswer, writeWords, encodeWords, Rewritten}
 use Rattle.formats.proofs.OfFormats.{word-again, read-fits, record-again, cf-word0, cf-word1, cf-alu-word0, cf-alu-word1, export-word0, export-word1, alu-word0, alu-op2, alu-op3}
 
 -- three tests that all pass, together and one by one
@@ -219,7 +219,7 @@ room-of s l start i e = room-by (pairOf s (getD l (start .0) 0) (getD l (start .
 module _ (i : Instruction) (l : List ℕ) (start : Words) where
   -- words that were read at a start and are written there again: done, and the whole buffer is as it was
   pub words-again : (s : Stream) → ((k : ℕ) → getD l k 0 < 2 ^ 32) → decodeOf s l start ≡ Taken i → Rewritten i l start
-  unfolding encodeAnswer encodeWords
+  unfolding writeAnswer writeWords
   words-again s small e =
       let at = start .0 in
       let d = room-of s l start i e in
@@ -235,12 +235,12 @@ module _ (i : Instruction) (l : List ℕ) (start : Words) where
 
   -- what is written was of a taken form and within its widths, and had room
   pub done-fits : encodeAnswer i l start ≡ Done → (encodable i ≡ true) × (room l (start .0) ≡ true)
-  unfolding encodeAnswer
+  unfolding writeAnswer
   done-fits e = done-by (encodable i) (room l (start .0)) e
 
   -- a record that was written is read there again
   pub record-again-at : encodeAnswer i l start ≡ Done → decodeOf (streamOf i) (encodeWords i l start) start ≡ Taken i
-  unfolding encodeWords decodeOf room
+  unfolding writeWords decodeOf room
   record-again-at e =
       let k = done-fits e in
       let h = k .0 in

@@ -16,10 +16,11 @@ use Rattle.microcode.specs.declared.Instruction.{Instruction}
 use Rattle.microcode.specs.declared.Decoded.{Decoded}
 use Rattle.microcode.specs.declared.Decoded.the-variants.{Outside, NotTaken, Taken}
 use Rattle.microcode.specs.declared.Encoded.{Encoded}
+use Rattle.microcode.specs.declared.words.RecordWords.{RecordWords}
 use Rattle.microcode.specs.declared.Encoded.the-variants.{NoRecord, NoRoom, Done}
 use Rattle.microcode.specs.declared.Stream.{Stream}
 use Rattle.microcode.specs.declared.Stream.the-variants.{ControlFlow, Alu}
-use Rattle.microcode.specs.Pair.{pairOf, numberTaken, encodable, lowOf, highOf}
+use Rattle.microcode.specs.Pair.{pairOf, numberTaken, encodable, wordsOf}
 
 -- two words from start on lie wholly in the words
 unfoldable pub room : List ℕ → ℕ → Bool
@@ -29,14 +30,20 @@ room l start = leb (start + 2) (length l)
 unfoldable pub decodeOf : Stream → List ℕ → Words → Decoded
 decodeOf stream l start = cond (room l (start .0)) (pairOf stream (getD l (start .0) 0) (getD l (start .0 + 1) 0)) Outside
 
--- the record is asked about before the room
-unfoldable pub encodeAnswer : Instruction → List ℕ → Words → Encoded
-encodeAnswer i l start = cond (encodable i) (cond (room l (start .0)) Done NoRoom) NoRecord
+-- the words of a record at start: the record is asked about before the room
+unfoldable pub writeAnswer : RecordWords → List ℕ → Words → Encoded
+writeAnswer w l start = cond (w .«is_record») (cond (room l (start .0)) Done NoRoom) NoRecord
 
 -- the whole buffer afterwards: all other words stay, and a refusal writes nothing
-unfoldable pub encodeWords : Instruction → List ℕ → Words → List ℕ
-encodeWords i l start =
-    cond (encodable i && room l (start .0)) (set (set l (start .0) (lowOf i)) (start .0 + 1) (highOf i)) l
+unfoldable pub writeWords : RecordWords → List ℕ → Words → List ℕ
+writeWords w l start = cond (w .«is_record» && room l (start .0)) (set (set l (start .0) (w .low)) (start .0 + 1) (w .high)) l
+
+-- a record at start
+abbrev pub encodeAnswer : Instruction → List ℕ → Words → Encoded
+encodeAnswer i l start = writeAnswer (wordsOf i) l start
+
+abbrev pub encodeWords : Instruction → List ℕ → Words → List ℕ
+encodeWords i l start = writeWords (wordsOf i) l start
 
 -- what decodes encodes at the same start to Done and to the same whole buffer
 pub record Rewritten (i : Instruction) (l : List ℕ) (start : Words) : Type 0 where

@@ -16,6 +16,7 @@ use Rattle.microcode.specs.declared.Instruction.{Instruction}
 use Rattle.microcode.specs.declared.Instruction.the-variants.{CfAlu, Cf, Export, Op2, Op3}
 use Rattle.microcode.specs.declared.Decoded.{Decoded}
 use Rattle.microcode.specs.declared.Decoded.the-variants.{NotTaken, Taken}
+use Rattle.microcode.specs.declared.words.RecordWords.{RecordWords}
 use Rattle.microcode.specs.declared.Stream.{Stream}
 use Rattle.microcode.specs.declared.Stream.the-variants as stream
 
@@ -108,3 +109,7 @@ highOf (Cf a b) = wordOf cf.word1Table (cf.word1Values b)
 highOf (Export a b) = wordOf export.word1Table (export.word1Values b)
 highOf (Op2 a b) = wordOf alu.op2Table (alu.op2Values b)
 highOf (Op3 a b) = wordOf alu.op3Table (alu.op3Values b)
+
+-- what the encoder makes of a record
+abbrev pub wordsOf : Instruction → RecordWords
+wordsOf i = record { «is_record» = encodable i; low = lowOf i; high = highOf i }

@@ -2,6 +2,7 @@
 //
 // A decoder is told which stream a pair stands in, since ALU pairs and control-flow pairs are told apart by their place only.
 mod pair;
+pub mod words;
 
 use checks::Place;
 use checks::Verdict;
@@ -16,9 +17,10 @@ use formats::export::CfAllocExportWord0;
 use formats::export::CfAllocExportWord1Swiz;
 use units::Slots;
 use units::Words;
+use words::RecordWords;
 ghost use mathlib.Core.Path.{_≡_};
 ghost use Rattle.microcode.specs.Pair.{streamOf};
-ghost use Rattle.microcode.specs.Buffer.{decodeOf, encodeAnswer, encodeWords, Rewritten, Answers, notTaken, refused, decodedVerdict, decodeNumber, encodedVerdict, encodeNumber};
+ghost use Rattle.microcode.specs.Buffer.{decodeOf, encodeAnswer, encodeWords, writeAnswer, writeWords, Rewritten, Answers, notTaken, refused, decodedVerdict, decodeNumber, encodedVerdict, encodeNumber};
 ghost use Rattle.microcode.specs.Code.{putAnswer, putWords};
 
 // The five forms of a pair.
@@ -84,16 +86,22 @@ pub fn encode(i: Instruction, out: &mut [u32], start: Words) -> Encoded
     ensures { λ r. ⌜ (r ≡ Encoded.Done → decodeOf (streamOf i) (now (out .exit)) start ≡ Decoded.Taken i) ⌝ }
     ensures { λ r. ⌜ Answers (encodedVerdict r) (encodeNumber i (now (out .entry)) start) ⌝ }
 {
+    write(words::of_record(i), out, start)
+}
+
+// The same with the words of a record that the caller knows the form of.
+pub fn write(words: RecordWords, out: &mut [u32], start: Words) -> Encoded
+    ensures { λ r. ⌜ r ≡ writeAnswer words (now (out .entry)) start ⌝ }
+    ensures { λ r. ⌜ now (out .exit) ≡ writeWords words (now (out .entry)) start ⌝ }
+{
     let at = start.0;
-    if !pair::is_encodable(i) {
+    if !words.is_record {
         return Encoded::NoRecord;
     }
-    let low = pair::low_word(i);
-    let high = pair::high_word(i);
     if out.len() < at {
         return Encoded::NoRoom;
     }
-    put_pair(&mut out[at..], low, high)
+    put_pair(&mut out[at..], words.low, words.high)
 }
 
 // The answers by the paper's table: number, place and slot.

@@ -1,10 +1,10 @@
-// What two words hold, and the words of a record, form by form.
+// What two words hold, form by form.
 use crate::Decoded;
 use crate::Instruction;
 use bits::read;
 use formats::fields;
 ghost use mathlib.Core.Path.{_≡_};
-ghost use Rattle.microcode.specs.Pair.{openerPairOf, cfPairOf, aluPairOf, encodable, lowOf, highOf};
+ghost use Rattle.microcode.specs.Pair.{openerPairOf, cfPairOf, aluPairOf};
 
 // The instruction that two words hold in the control-flow section.
 pub(crate) fn cf_pair(low: u32, high: u32) -> Decoded
@@ -65,63 +65,4 @@ pub(crate) fn alu_pair(low: u32, high: u32) -> Decoded
         ));
     }
     Decoded::NotTaken
-}
-
-// Whether a record is of a taken form and each of its fields within its width.
-pub(crate) fn is_encodable(i: Instruction) -> bool
-    ensures { λ r. ⌜ r ≡ encodable i ⌝ }
-{
-    match i {
-        Instruction::CfAlu(a, b) => {
-            let control = opcodes::cf::cf_alu_control(b.cf_inst);
-            formats::cf_alu::word0_fits(a)
-                & formats::cf_alu::word1_fits(b)
-                & opcodes::cf::is_taken(control)
-        }
-        Instruction::Cf(a, b) => {
-            let control = opcodes::cf::cf_control(b.cf_inst);
-            formats::cf::word0_fits(a)
-                & formats::cf::word1_fits(b)
-                & (opcodes::cf::is_taken(control) & !opcodes::cf::is_export(control))
-        }
-        Instruction::Export(a, b) => {
-            let control = opcodes::cf::cf_control(b.cf_inst);
-            formats::export::word0_fits(a)
-                & formats::export::word1_fits(b)
-                & opcodes::cf::is_export(control)
-        }
-        Instruction::Op2(a, b) => {
-            let class = opcodes::alu::op2_class(b.alu_inst);
-            formats::alu::word0_fits(a) & formats::alu::op2_fits(b) & opcodes::alu::is_taken(class)
-        }
-        Instruction::Op3(a, b) => {
-            let class = opcodes::alu::op3_class(b.alu_inst);
-            formats::alu::word0_fits(a) & formats::alu::op3_fits(b) & opcodes::alu::is_taken(class)
-        }
-    }
-}
-
-// The two words of a record.
-pub(crate) fn low_word(i: Instruction) -> u32
-    ensures { λ r. ⌜ r ≡ lowOf i ⌝ }
-{
-    match i {
-        Instruction::CfAlu(a, _) => formats::cf_alu::write_word0(a),
-        Instruction::Cf(a, _) => formats::cf::write_word0(a),
-        Instruction::Export(a, _) => formats::export::write_word0(a),
-        Instruction::Op2(a, _) => formats::alu::write_word0(a),
-        Instruction::Op3(a, _) => formats::alu::write_word0(a),
-    }
-}
-
-pub(crate) fn high_word(i: Instruction) -> u32
-    ensures { λ r. ⌜ r ≡ highOf i ⌝ }
-{
-    match i {
-        Instruction::CfAlu(_, b) => formats::cf_alu::write_word1(b),
-        Instruction::Cf(_, b) => formats::cf::write_word1(b),
-        Instruction::Export(_, b) => formats::export::write_word1(b),
-        Instruction::Op2(_, b) => formats::alu::write_op2(b),
-        Instruction::Op3(_, b) => formats::alu::write_op3(b),
-    }
 }

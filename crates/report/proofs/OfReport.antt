@@ -75,7 +75,7 @@ accepted-if Accepted h = refl
 accepted-if (Refused rule place slot) h = absurd (false≢true h)
 
 -- released is what document 01 says
-released-exactly-if : (build : ReportBuild) (verdict : Verdict) → released build verdict ≡ true ↔ (verdict ≡ Accepted) × (build ≡ Production)
+pub released-exactly-if : (build : ReportBuild) (verdict : Verdict) → released build verdict ≡ true ↔ (verdict ≡ Accepted) × (build ≡ Production)
 released-exactly-if build verdict = (there build, λ h. rw (h .0, h .1))
   where
     there : (build : ReportBuild) → released build verdict ≡ true → (verdict ≡ Accepted) × (build ≡ Production)

@@ -62,7 +62,8 @@ fn shown_build(build: ReportBuild, verdict: Verdict) -> ReportBuild
     build
 }
 
-fn is_released(build: ReportBuild, verdict: Verdict) -> bool
+// Whether the report says release=yes.
+pub fn is_released(build: ReportBuild, verdict: Verdict) -> bool
     ensures { λ r. ⌜ r ≡ released build verdict ⌝ }
 {
     match build {

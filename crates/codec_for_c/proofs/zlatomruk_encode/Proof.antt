@@ -2,6 +2,9 @@
 use borrow.Author.Needs.{needs}
 use native.Mathlib.Omega.{arith}
 use denote.Ref.{now}
+use Rattle.units.specs.Units.{words}
+use Rattle.microcode.proofs.OfCodec.{written-record}
+use Rattle.codec_for_c.specs.Values.{recordOf}
 use Rattle.codec_for_c.proofs.OfCodec.{encode-short, encode-other-form, encode-record}
 use Rattle.codec_for_c.proofs.OfValues.{encode-promises}
 use Rattle.codec_for_c.proofs.zlatomruk_encode.Statement.{statement}
@@ -27,8 +30,9 @@ returns-3 c =
     let r = i .before .before .before in
     let a = r .before .before .before .args in
     encode-promises (now (a .values)) (now (a .words)) (a .start) _ _
-    (encode-record (now (a .values)) (now (a .words)) (a .start) _ _ _ _ (omega arith) (omega arith) (i .record-of .ensures)
-    (e .encode .ensures .0) (e .encode .ensures .1 .0) (c .encoded-number3 .ensures))
+    (encode-record (now (a .values)) (now (a .words)) (a .start) _ _ _ (omega arith) (omega arith)
+    (written-record (recordOf (now (a .values))) (now (a .words)) (words (a .start)) (i .words-of .ensures) (e .write .ensures))
+    (c .encoded-number3 .ensures))
 
 pub zlatomruk-encode-spec : {M : Type 1} → statement M
 zlatomruk-encode-spec =

@@ -15,7 +15,7 @@ returns c =
     let report = report-on (a .input .now) (judged .judge-input .result) (judged .judge-input .ensures) in
     let result = wrote .write-report .ensures .0 ∙ ap (λ bytes. writtenOf bytes (a .out .now)) report in
     let buffer = wrote .write-report .ensures .1 ∙ ap (λ bytes. bufferAfter bytes (a .out .now)) report in
-    (result, (buffer, λ n e. release-told (a .input .now) (a .out .now) _ n (sym e ∙ result) buffer))
+    (result, (buffer, λ n e. release-told (a .out .now) _ n (a .input .now) (sym e ∙ result) buffer))
 
 pub report-input-spec : {M : Type 1} → statement M
 report-input-spec =

@@ -1,0 +1,2 @@
+-- The root of what the contracts cite.
+pub mod Files

@@ -1,0 +1,47 @@
+-- Few bits hold the number, the place and the slot of every verdict on a card's file and a pack's. Assumes nothing.
+use mathlib.Core.Path.{_≡_, refl}
+use mathlib.Core.Bool.{Bool, true, false, cond}
+use mathlib.Core.List.{List}
+use lib.Dec.{eqb}
+use lib.ListN.{length}
+use Prim.Native.Nat.{ℕ}
+use native.Mathlib.Omega.{arith}
+use Rattle.card.specs.Card.{cardOf}
+use Rattle.card.specs.Made.{testOf}
+use Rattle.card.specs.declared.Card.{Card}
+use Rattle.card.specs.declared.CardRead.{CardRead}
+use Rattle.card.specs.declared.CardRead.the-variants.{Whole, BadLine}
+use Rattle.card.specs.declared.CardTest.{CardTest}
+use Rattle.card.specs.declared.CardTest.the-variants as test
+use Rattle.card.proofs.OfCard.{bad-line, bad-figure}
+use Rattle.judge.specs.Judge.{judgement}
+use Rattle.judge.proofs.OfBounds.{Narrow, judgement-narrow, line-narrow}
+use Rattle.input.specs.Words.{wordsIn}
+use Rattle.input.specs.Input.{badLength, rightLength, byTest, packVerdict, judgedBy, withoutCard, besideCard, judgedOfFiles}
+
+length-narrow : Narrow badLength
+length-narrow = record { number = omega arith; refused = λ z. absurd (omega arith); place = omega arith; slot = omega arith }
+
+pack-narrow : (card : Card) (pack : List ℕ) → Narrow (packVerdict card pack)
+unfolding packVerdict
+pack-narrow card pack = by (testOf card) refl
+  where
+    by-right : (x : Bool) → Narrow (cond x (judgement card (wordsIn pack)) badLength)
+    by-right true = judgement-narrow card (wordsIn pack)
+    by-right false = length-narrow
+
+    by : (t : CardTest) → testOf card ≡ t → Narrow (byTest card pack t)
+    by (test.BadLine n) e = line-narrow n (omega (arith, bad-figure card n e .1))
+    by test.InRange e = by-right (rightLength (card .quads) (length pack))
+
+pub files-narrow : (text pack : List ℕ) → Narrow (judgedOfFiles text pack .verdict)
+unfolding judgedOfFiles
+files-narrow text pack = by (cardOf text) refl
+  where
+    by-end : (card : Card) (x : Bool) → Narrow (cond x (judgedBy card pack) (withoutCard 8) .verdict)
+    by-end card true = pack-narrow card pack
+    by-end card false = line-narrow 8 (omega arith)
+
+    by : (r : CardRead) → cardOf text ≡ r → Narrow (besideCard text pack r .verdict)
+    by (BadLine n) e = line-narrow n (omega (arith, bad-line text n e .1))
+    by (Whole card n) e = by-end card (eqb n (length text))

@@ -1,0 +1,24 @@
+// judge_files CARD PACK: judges a pack's file by a card's and writes the report to standard output. Where a file can't be read it says so on
+// standard error and writes no report.
+use libc::STDERR_FILENO;
+
+fn main() {
+    if os::arg_count() != 3 {
+        io::write_all(STDERR_FILENO, b"usage: judge_files CARD PACK\n");
+        return;
+    }
+    let mut card = console::card_room();
+    let card_read = console::read_argument(1, &mut card);
+    if console::is_failed(card_read) {
+        return;
+    }
+    let mut pack = console::pack_room();
+    let pack_read = console::read_argument(2, &mut pack);
+    if console::is_failed(pack_read) {
+        return;
+    }
+    let n = console::bytes_read(card_read, &card);
+    let m = console::bytes_read(pack_read, &pack);
+    let mut report = console::report_room();
+    console::report_on_files(&card[..n], &pack[..m], &mut report);
+}
