@@ -52,6 +52,12 @@ run target/bin/judge_files $card
 holds "judge_files: usage" grep -q usage "$work/err"
 target/bin/judge_files $card $pack >/dev/full 2>"$work/err"
 holds "judge_files: a full output is told" grep -q "not written" "$work/err"
+# So with standard input: a folder, and a closed one.
+for fault in '<.' '<&-'; do
+    run sh -c "target/bin/judge_pack $fault"
+    holds "judge_pack: $fault is told" grep -q "^judge: standard input: " "$work/err"
+    holds "judge_pack: no report on $fault" [ ! -s "$work/out" ]
+done
 
 # A report that is lost.
 ./judge $card $pack >/dev/full 2>"$work/err"

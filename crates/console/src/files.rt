@@ -1,15 +1,27 @@
-// Files by the arguments that name them. What can't be read is told on standard error, and never taken for the end of a file.
+// Standard input, and files by the arguments that name them. What can't be read is told on standard error, and never taken for the end of a file.
 ghost use mathlib.Core.Path.{_≡_};
 ghost use lib.ListN.{length};
 ghost use Rattle.io.specs.Counts.{Counts};
 ghost use Rattle.console.specs.Files.{Within, bytesOf, isFailed};
 use libc::STDERR_FILENO;
+use libc::STDIN_FILENO;
 use units::smaller;
 
 // How many bytes of a file stand at the start of a room, or that it could not be read.
 pub enum FileRead {
     Failed,
     Bytes(usize),
+}
+
+// Reads standard input until it ends or the room is full. What fails is told.
+pub fn read_input(room: &mut [u8]) -> FileRead
+    ensures { λ r. ⌜ Within r (now (room .exit)) ⌝ }
+{
+    let read = read_all(STDIN_FILENO, room);
+    if let FileRead::Failed = read {
+        tell(b"standard input");
+    }
+    read
 }
 
 // Reads the file that argument i names, until it ends or the room is full. What fails is told.

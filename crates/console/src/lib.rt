@@ -1,4 +1,4 @@
-// What the programs that judge share: room for what they read, files by the arguments that name them, and the report on standard output.
+// What the programs that judge share: room for what they read, standard input, files by the arguments that name them, and the report on standard output.
 mod files;
 
 ghost use mathlib.Core.Path.{_≡_};
@@ -11,6 +11,7 @@ pub use files::FileRead;
 pub use files::bytes_read;
 pub use files::is_failed;
 pub use files::read_argument;
+pub use files::read_input;
 use libc::STDOUT_FILENO;
 use report::Written;
 
