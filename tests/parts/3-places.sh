@@ -37,8 +37,14 @@ sed -i 's/release=no/release=on/' "$copy/crates/report/src/lib.rt"
 touch -d 2001-01-01 "$copy/crates/report/src/lib.rt"
 answers "a changed source with an old time" 2 without_kit "$copy/judge" "$card" "$pack"
 # It would be proved now, if nobody else were at it.
-answers "another build is waited for" 124 flock "$copy/target/built/lock" timeout 1 "$copy/judge" "$card" "$pack"
-holds "and it says so" grep -qx 'judge: waiting for another build in this folder' "$work/err"
+# shellcheck disable=SC2016 # expanded by the inner shell
+flock "$copy/target/built/lock" sh -c '
+    timeout 30 "$1/judge" "$2" "$3" >"$4/out" 2>"$4/err" &
+    while kill -0 $! 2>/dev/null && ! grep -q waiting "$4/err"; do sleep 0.1; done
+    kill $!
+    wait' sh "$copy" "$card" "$pack" "$work"
+holds "another build is waited for" grep -qx 'judge: waiting for another build in this folder' "$work/err"
+holds "and nothing is reported" [ ! -s "$work/out" ]
 cp crates/report/src/lib.rt "$copy/crates/report/src/lib.rt"
 reports "the source as it was" "$yes" without_kit "$copy/judge" "$card" "$pack"
 rm -f "$copy/target/bin/judge_files"

@@ -74,6 +74,10 @@ abbrev pub cardWith : Kind → Build → ℕ → ℕ → ℕ → ℕ → ℕ →
 cardWith kind build gprs temps consts stack quads =
     record { kind = kind; build = build; gprs = gprs; temps = temps; consts = consts; stack = stack; quads = quadwords quads }
 
+-- how many lines a card has
+abbrev pub cardLines : ℕ
+cardLines = 7
+
 -- the paper's card: its table, line by line. The n-th stretch of bytes up to a line feed is tested as line n. Seven lines that are
 -- exactly right make a card, with the bytes that they take; else the first that isn't is the answer
 unfoldable pub cardOf : List ℕ → CardRead
@@ -85,7 +89,7 @@ cardOf s = do
   consts ← line s 5 "consts" (numberIn constsAllowed)
   stack ← line s 6 "stack" (numberIn stackAllowed)
   quads ← line s 7 "quads" (numberIn quadsAllowed)
-  read.Whole (cardWith kind build gprs temps consts stack quads) (linesLength 7 s)
+  read.Whole (cardWith kind build gprs temps consts stack quads) (linesLength cardLines s)
 
 -- ---- a card by value
 

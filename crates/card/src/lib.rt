@@ -57,6 +57,9 @@ pub enum CardTest {
     BadLine(usize),
 }
 
+// How many lines a card has.
+pub const LINES: usize = 7;
+
 // Reads the card that `bytes` begin with. Any bytes are answered; what stands behind line 7 is not looked at.
 pub fn read_card(bytes: &[u8]) -> CardRead
     ensures { λ r. ⌜ r ≡ cardOf (now (bytes .entry)) ⌝ }

@@ -1,4 +1,5 @@
-// What the programs that judge share: room for what they read, standard input, files by the arguments that name them, and the report on standard output.
+// What the programs that judge share: room for what they read, standard input, files by the arguments that name them, and the report on
+// standard output.
 mod files;
 
 ghost use mathlib.Core.Path.{_≡_};
@@ -7,6 +8,7 @@ ghost use lib.ListN.{length, replicate};
 ghost use Rattle.report.specs.declared.Written.the-variants.{Length};
 ghost use Rattle.report.specs.Buffer.{bufferAfter};
 ghost use Rattle.input.specs.Input.{reportOf, reportOfFiles};
+ghost use Rattle.console.specs.Rooms.{HoldsInput, HoldsCard, HoldsPack, HoldsReport};
 pub use files::FileRead;
 pub use files::bytes_read;
 pub use files::is_failed;
@@ -15,23 +17,26 @@ pub use files::read_input;
 use libc::STDOUT_FILENO;
 use report::Written;
 
-// Room for a byte more than the longest card and the longest pack have: what stands behind those changes no report (`enough-read`, in
-// input's proofs/OfReading.antt), so an endless input is answered, too.
+// Room for a byte more than the longest card and the longest pack have: what stands behind those changes no report, so an endless input is
+// answered, too.
 pub fn input_room() -> [u8; 65610]
     ensures { λ r. ⌜ r ≡ replicate 65610 0 ⌝ }
+    ensures { λ r. ⌜ HoldsInput r ⌝ }
 {
     [0; 65610]
 }
 
-// The same for a card and a pack in files of their own (`enough-of-files`).
+// The same for a card and a pack in files of their own.
 pub fn card_room() -> [u8; 74]
     ensures { λ r. ⌜ r ≡ replicate 74 0 ⌝ }
+    ensures { λ r. ⌜ HoldsCard r ⌝ }
 {
     [0; 74]
 }
 
 pub fn pack_room() -> [u8; 65537]
     ensures { λ r. ⌜ r ≡ replicate 65537 0 ⌝ }
+    ensures { λ r. ⌜ HoldsPack r ⌝ }
 {
     [0; 65537]
 }
@@ -39,6 +44,7 @@ pub fn pack_room() -> [u8; 65537]
 // Room for the longest report.
 pub fn report_room() -> [u8; 111]
     ensures { λ r. ⌜ r ≡ replicate 111 0 ⌝ }
+    ensures { λ r. ⌜ HoldsReport r ⌝ }
 {
     [0; 111]
 }

@@ -2,7 +2,7 @@
 use mathlib.Core.Path.{_≡_, refl, ap, sym, _∙_}
 use mathlib.Core.Bool.{Bool, true, false, cond, not}
 use mathlib.Core.List.{List, _++_}
-use Prim.Native.Nat.{ℕ, _*_, _/_, _%_, _≤_}
+use Prim.Native.Nat.{ℕ, suc, _*_, _/_, _%_, _≤_}
 use native.Mathlib.Omega.{arith}
 use borrow.Author.Tests.{eq-eqb, ne-eqb, eqb-true, eqb-false, not-true, not-false}
 use lib.Dec.{eqb}
@@ -11,7 +11,7 @@ use lib.Seq.{drop-append-seam}
 use Rattle.laws.proofs.OfTests.{same-test}
 use Rattle.units.specs.declared.Quadwords.{Quadwords}
 use Rattle.checks.specs.declared.Verdict.{Verdict}
-use Rattle.card.specs.Card.{cardOf}
+use Rattle.card.specs.Card.{cardLines, cardOf}
 use Rattle.card.specs.Made.{testOf}
 use Rattle.card.specs.declared.Build.{Build}
 use Rattle.card.specs.declared.Card.{Card}
@@ -24,7 +24,7 @@ use Rattle.card.proofs.OfBehind.{card-ahead}
 use Rattle.judge.specs.Judge.{judgement}
 use Rattle.judge.proofs.OfJudge as of-judge
 use Rattle.input.specs.Words.{wordsIn}
-use Rattle.input.specs.Input.{shown, badLine, badLength, rightLength, byTest, packVerdict, judgedBy, withoutCard, behindCard, judgedOf, besideCard, judgedOfFiles, SevenLines, reportOn, reportOf, reportOfFiles}
+use Rattle.input.specs.Input.{shown, badLine, badLength, rightLength, byTest, packVerdict, judgedBy, withoutCard, behindCard, judgedOf, besideCard, judgedOfFiles, AllLines, reportOn, reportOf, reportOfFiles}
 use Rattle.input.specs.declared.Judged.{Judged}
 
 -- ---- the length
@@ -117,25 +117,25 @@ module _ (text : List ℕ) {known : CardRead} (told : known ≡ cardOf text) whe
 
     module _ (pack : List ℕ) where
       -- by whether it is all of its file
-      beside-by : (x : Bool) → eqb taken (length text) ≡ x → cond x (judgedBy card pack) (withoutCard 8) ≡ judgedOfFiles text pack
+      beside-by : (x : Bool) → eqb taken (length text) ≡ x → cond x (judgedBy card pack) (withoutCard (suc cardLines)) ≡ judgedOfFiles text pack
       unfolding judgedOfFiles
-      beside-by x e = ap (λ (t : Bool). cond t (judgedBy card pack) (withoutCard 8)) (sym e) ∙ ap (besideCard text pack) (sym h ∙ told)
+      beside-by x e = ap (λ (t : Bool). cond t (judgedBy card pack) (withoutCard (suc cardLines))) (sym e) ∙ ap (besideCard text pack) (sym h ∙ told)
 
       pub beside-answer : {judged : Judged} → taken ≡ length text → judged ≡ judgedBy card pack → judged ≡ judgedOfFiles text pack
       beside-answer e v = v ∙ beside-by true (eq-eqb taken (length text) e)
 
-      pub more-behind : {judged : Judged} → (taken ≡ length text → ⊥) → judged ≡ withoutCard 8 → judged ≡ judgedOfFiles text pack
+      pub more-behind : {judged : Judged} → (taken ≡ length text → ⊥) → judged ≡ withoutCard (suc cardLines) → judged ≡ judgedOfFiles text pack
       more-behind e v = v ∙ beside-by false (ne-eqb taken (length text) e)
 
--- ---- a file of seven lines: the answer is that to the two files one behind the other
-pub seven-lines : (text pack : List ℕ) → SevenLines text → judgedOfFiles text pack ≡ judgedOf (text ++ pack)
+-- ---- a file of all its lines and nothing else: the answer is that to the two files one behind the other
+pub all-lines : (text pack : List ℕ) → AllLines text → judgedOfFiles text pack ≡ judgedOf (text ++ pack)
 unfolding judgedOfFiles judgedOf
-seven-lines text pack s =
-    by (cardOf text) refl ∙ sym (ap (behindCard (text ++ pack)) (card-ahead text pack (s .seventh) (s .is-there)))
+all-lines text pack s =
+    by (cardOf text) refl ∙ sym (ap (behindCard (text ++ pack)) (card-ahead text pack (s .last) (s .is-there)))
   where
     by : (known : CardRead) → cardOf text ≡ known → besideCard text pack known ≡ behindCard (text ++ pack) known
     by (read.Whole card n) e =
-        let l : n ≡ length text = whole-all text card n e (s .is-last) in
+        let l : n ≡ length text = whole-all text card n e (s .none-behind) in
         rw (eq-eqb n (length text) l)
         (ap (judgedBy card) (sym (drop-append-seam text pack) ∙ ap (λ (k : ℕ). drop k (text ++ pack)) (sym l)))
     by (read.BadLine n) e = refl
@@ -150,7 +150,7 @@ pub report-on-files : (text pack : List ℕ) (judged : Judged) → judged ≡ ju
 unfolding reportOfFiles
 report-on-files text pack judged e = ap reportOn e
 
-pub seven-lines-report : (text pack : List ℕ) → SevenLines text → reportOfFiles text pack ≡ reportOf (text ++ pack)
-seven-lines-report text pack s =
+pub all-lines-report : (text pack : List ℕ) → AllLines text → reportOfFiles text pack ≡ reportOf (text ++ pack)
+all-lines-report text pack s =
     sym (report-on-files text pack (judgedOfFiles text pack) refl)
-    ∙ report-on (text ++ pack) (judgedOfFiles text pack) (seven-lines text pack s)
+    ∙ report-on (text ++ pack) (judgedOfFiles text pack) (all-lines text pack s)

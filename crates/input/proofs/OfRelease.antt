@@ -5,7 +5,7 @@ use mathlib.Core.Path.{_≡_, refl, ap, sym, _∙_}
 use mathlib.Core.Bool.{Bool, true, false, cond}
 use mathlib.Core.List.{List, [], _++_, append-nil}
 use mathlib.Core.Logic.{_↔_}
-use Prim.Native.Nat.{ℕ, _*_}
+use Prim.Native.Nat.{ℕ, suc, _*_}
 use native.Mathlib.Omega.{arith}
 use borrow.Author.Tests.{eq-eqb, eqb-true}
 use lib.Dec.{eqb}
@@ -14,7 +14,7 @@ use lib.Seq.{take-at, drop-append-seam}
 use Rattle.laws.proofs.OfCases.{impossible}
 use Rattle.checks.specs.declared.Verdict.the-variants.{Accepted}
 use Rattle.checks.proofs.OfChecks.{never-accepted}
-use Rattle.card.specs.Card.{cardOf}
+use Rattle.card.specs.Card.{cardLines, cardOf}
 use Rattle.card.specs.Made.{testOf}
 use Rattle.card.specs.Written.{written}
 use Rattle.card.specs.declared.Build.{Build}
@@ -80,8 +80,8 @@ files-released : (text pack : List ℕ) (known : CardRead) → cardOf text ≡ k
     → besideCard text pack known .build ≡ Production → Released text pack
 files-released text pack (Whole card n) e v b = by (eqb n (length text)) refl v b
   where
-    by : (x : Bool) → eqb n (length text) ≡ x → cond x (judgedBy card pack) (withoutCard 8) .verdict ≡ Accepted
-        → cond x (judgedBy card pack) (withoutCard 8) .build ≡ Production → Released text pack
+    by : (x : Bool) → eqb n (length text) ≡ x → cond x (judgedBy card pack) (withoutCard (suc cardLines)) .verdict ≡ Accepted
+        → cond x (judgedBy card pack) (withoutCard (suc cardLines)) .build ≡ Production → Released text pack
     by true l v b =
         let l = eqb-true n (length text) l in
         let nothing : drop n text ≡ [] = drop-of-length-le text {i = n} (omega arith) in
@@ -98,7 +98,7 @@ released-files text pack r =
     let e : cardOf text ≡ Whole (r .card) (length (written (r .card))) = ap cardOf whole ∙ written-read (r .card) [] test in
     let l = eq-eqb (length (written (r .card))) (length text) (sym (ap length (r .is-card))) in
     ap (besideCard text pack) e
-    ∙ ap (λ (t : Bool). cond t (judgedBy (r .card) pack) (withoutCard 8)) l
+    ∙ ap (λ (t : Bool). cond t (judgedBy (r .card) pack) (withoutCard (suc cardLines))) l
     ∙ released-by text pack r
 
 -- the build is production and the verdict 0 exactly if the files are released

@@ -1,6 +1,6 @@
 -- A card and a pack, one behind the other or each in a file, and what is answered to them: document 01, "What the judge reads", with the
 -- numbers 1 and 2 of "Numbers and what they mean". Every other number is the judge's.
-use Prim.Native.Nat.{ℕ, _*_}
+use Prim.Native.Nat.{ℕ, suc, _*_}
 use mathlib.Core.Path.{_≡_}
 use mathlib.Core.Bool.{Bool, cond}
 use mathlib.Core.List.{List, []}
@@ -13,7 +13,7 @@ use Rattle.checks.specs.declared.Place.the-variants as place
 use Rattle.checks.specs.declared.Verdict.{Verdict}
 use Rattle.checks.specs.declared.Verdict.the-variants.{Refused}
 use Rattle.card.specs.Text.{behind, lineOf}
-use Rattle.card.specs.Card.{cardOf}
+use Rattle.card.specs.Card.{cardLines, cardOf}
 use Rattle.card.specs.Made.{testOf}
 use Rattle.card.specs.declared.Build.{Build}
 use Rattle.card.specs.declared.Build.the-variants as build
@@ -82,20 +82,20 @@ behindCard input (read.BadLine n) = withoutCard n
 unfoldable pub judgedOf : List ℕ → Judged
 judgedOf input = behindCard input (cardOf input)
 
--- each in a file of its own: in the card's nothing stands behind the seven lines, or else it is 1 at the line behind them
+-- each in a file of its own: in the card's nothing stands behind its lines, or else it is 1 at the line behind them
 abbrev pub besideCard : List ℕ → List ℕ → CardRead → Judged
-besideCard text pack (read.Whole card taken) = cond (eqb taken (length text)) (judgedBy card pack) (withoutCard 8)
+besideCard text pack (read.Whole card taken) = cond (eqb taken (length text)) (judgedBy card pack) (withoutCard (suc cardLines))
 besideCard text pack (read.BadLine n) = withoutCard n
 
 -- what is answered to a card's file and a pack's
 unfoldable pub judgedOfFiles : List ℕ → List ℕ → Judged
 judgedOfFiles text pack = besideCard text pack (cardOf text)
 
--- a card's file that has its seven lines, each ended by its line feed, and nothing behind them
-pub record SevenLines (text : List ℕ) : Type 0 where
-  pub seventh : List ℕ
-  pub is-there : lineOf 7 text ≡ some seventh
-  pub is-last : behind 7 text ≡ []
+-- a card's file that has all its lines, right or wrong, each ended by its line feed, and nothing behind them
+pub record AllLines (text : List ℕ) : Type 0 where
+  pub last : List ℕ
+  pub is-there : lineOf cardLines text ≡ some last
+  pub none-behind : behind cardLines text ≡ []
 
 -- ---- the report
 

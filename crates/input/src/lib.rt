@@ -14,7 +14,7 @@ ghost use Rattle.report.specs.declared.Written.the-variants.{Length};
 ghost use Rattle.report.specs.Buffer.{writtenOf, bufferAfter};
 ghost use Rattle.judge.specs.Judge.{judgement};
 ghost use Rattle.input.specs.Words.{wordsIn};
-ghost use Rattle.input.specs.Input.{shown, rightLength, packVerdict, judgedBy, withoutCard, judgedOf, judgedOfFiles, SevenLines, reportOf, reportOfFiles};
+ghost use Rattle.input.specs.Input.{shown, rightLength, packVerdict, judgedBy, withoutCard, judgedOf, judgedOfFiles, AllLines, reportOf, reportOfFiles};
 ghost use Rattle.input.specs.Released.{ReleaseTold, FilesTold};
 
 mod words;
@@ -47,17 +47,17 @@ pub fn judge_input(input: &[u8]) -> Judged
     }
 }
 
-// Judges a card's file and a pack's. Bytes behind the card's seventh line are refused as an eighth; for a file of seven lines the answer
-// is that to the two files one behind the other.
+// Judges a card's file and a pack's. Bytes behind the card's last line are refused as a line more; for a file of all its lines and
+// nothing else the answer is that to the two files one behind the other.
 pub fn judge_files(text: &[u8], pack: &[u8]) -> Judged
     ensures { λ r. ⌜ r ≡ judgedOfFiles (now (text .entry)) (now (pack .entry)) ⌝ }
-    ensures { λ r. ⌜ (SevenLines (now (text .entry)) → r ≡ judgedOf (now (text .entry) ++ now (pack .entry))) ⌝ }
+    ensures { λ r. ⌜ (AllLines (now (text .entry)) → r ≡ judgedOf (now (text .entry) ++ now (pack .entry))) ⌝ }
 {
     let read = card::read_card(text);
     match read {
         CardRead::Whole(card, taken) => {
             if taken != text.len() {
-                return without_card(8);
+                return without_card(card::LINES + 1);
             }
             judged_by(card, pack)
         }
@@ -85,7 +85,7 @@ pub fn report_files(text: &[u8], pack: &[u8], out: &mut [u8]) -> Written
     ensures { λ r. ⌜ r ≡ writtenOf (reportOfFiles (now (text .entry)) (now (pack .entry))) (now (out .entry)) ⌝ }
     ensures { λ _. ⌜ now (out .exit) ≡ bufferAfter (reportOfFiles (now (text .entry)) (now (pack .entry))) (now (out .entry)) ⌝ }
     ensures { λ r. ⌜ ((n : ℕ) → r ≡ Length n → FilesTold (now (text .entry)) (now (pack .entry)) (take n (now (out .exit)))) ⌝ }
-    ensures { λ _. ⌜ (SevenLines (now (text .entry)) → reportOfFiles (now (text .entry)) (now (pack .entry)) ≡ reportOf (now (text .entry) ++ now (pack .entry))) ⌝ }
+    ensures { λ _. ⌜ (AllLines (now (text .entry)) → reportOfFiles (now (text .entry)) (now (pack .entry)) ≡ reportOf (now (text .entry) ++ now (pack .entry))) ⌝ }
 {
     let judged = judge_files(text, pack);
     let build = judged.build;

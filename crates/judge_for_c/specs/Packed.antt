@@ -13,11 +13,15 @@ use Rattle.checks.specs.Verdict.{verdictNumber, verdictPlace, verdictSlot}
 unfoldable pub packed : Verdict → ℕ → ℕ
 packed v bit = join 0 (8 ∷ 8 ∷ 16 ∷ 16 ∷ 1 ∷ []) (verdictNumber v ∷ 0 ∷ verdictPlace v ∷ verdictSlot v ∷ bit ∷ [])
 
+-- that bit of an answer
+abbrev pub bitOf : ℕ → ℕ
+bitOf r = fieldOf r 48 1
+
 -- the verdict's three numbers and the bit are read off r as they are, and r has no other bits
 pub record ReadBack (v : Verdict) (bit r : ℕ) : Type 0 where
   pub number : fieldOf r 0 8 ≡ verdictNumber v
   pub operand : fieldOf r 8 8 ≡ 0
   pub place : fieldOf r 16 16 ≡ verdictPlace v
   pub slot : fieldOf r 32 16 ≡ verdictSlot v
-  pub is-set : fieldOf r 48 1 ≡ bit
+  pub is-set : bitOf r ≡ bit
   pub rest : fieldOf r 49 15 ≡ 0

@@ -14,10 +14,11 @@ use Rattle.formats.specs.Fields.{_of_, «CF_ALU_MARK», «CF_ALU_INST», «CF_I
 use Rattle.laws.proofs.OfTests.{by-test}
 use Rattle.microcode.specs.declared.Instruction.{Instruction}
 use Rattle.microcode.specs.declared.Decoded.the-variants.{NotTaken, Taken}
+use Rattle.microcode.specs.declared.words.RecordWords.{RecordWords}
 use Rattle.microcode.specs.declared.Stream.{Stream}
 use Rattle.microcode.specs.declared.Stream.the-variants.{ControlFlow, Alu}
-use Rattle.microcode.specs.Pair.{openerPairOf, plainPairOf, cfPairOf, op2PairOf, op3PairOf, aluPairOf, pairOf, cfNumberTaken, aluNumberTaken, numberTaken, encodable}
-use Rattle.microcode.specs.Buffer.{room, decodeOf, encodeAnswer, writeAnswer, notTaken, refused, decodedVerdict, encodedVerdict, Answers, decodeNumber, encodeNumber}
+use Rattle.microcode.specs.Pair.{openerPairOf, plainPairOf, cfPairOf, op2PairOf, op3PairOf, aluPairOf, pairOf, cfNumberTaken, aluNumberTaken, numberTaken}
+use Rattle.microcode.specs.Buffer.{room, decodeOf, writeAnswer, notTaken, refused, decodedVerdict, encodedVerdict, Answers, decodeNumber, writeNumber}
 use Rattle.microcode.proofs.RoundTrip.{export-is-taken}
 
 accepted-0 : Answers Accepted 0
@@ -67,9 +68,9 @@ decode-number s l start =
     (λ t. rw t (pair-number (getD l (start .0) 0) (getD l (start .0 + 1) 0) s))
     (λ t. rw t (refused-by 2))
 
-pub encode-number : (i : Instruction) (l : List ℕ) (start : Words) → Answers (encodedVerdict (encodeAnswer i l start)) (encodeNumber i l start)
-unfolding writeAnswer encodeNumber
-encode-number i l start =
-    by-test (encodable i)
+pub write-number : (w : RecordWords) (l : List ℕ) (start : Words) → Answers (encodedVerdict (writeAnswer w l start)) (writeNumber w l start)
+unfolding writeAnswer writeNumber
+write-number w l start =
+    by-test (w .«is_record»)
     (λ t. by-test (room l (start .0)) (λ u. rw (t, u) accepted-0) (λ u. rw (t, u) (refused-by 20)))
     (λ t. rw t (refused-by 21))

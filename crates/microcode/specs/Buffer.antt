@@ -20,7 +20,7 @@ use Rattle.microcode.specs.declared.words.RecordWords.{RecordWords}
 use Rattle.microcode.specs.declared.Encoded.the-variants.{NoRecord, NoRoom, Done}
 use Rattle.microcode.specs.declared.Stream.{Stream}
 use Rattle.microcode.specs.declared.Stream.the-variants.{ControlFlow, Alu}
-use Rattle.microcode.specs.Pair.{pairOf, numberTaken, encodable, wordsOf}
+use Rattle.microcode.specs.Pair.{pairOf, numberTaken, wordsOf}
 
 -- two words from start on lie wholly in the words
 unfoldable pub room : List ℕ → ℕ → Bool
@@ -82,6 +82,10 @@ unfoldable pub decodeNumber : Stream → List ℕ → Words → ℕ
 decodeNumber stream l start =
     cond (room l (start .0)) (cond (numberTaken stream (getD l (start .0 + 1) 0)) 0 (notTaken stream)) 2
 
+-- 21 if they are no record's words, else 20 if they don't fit at the start
+unfoldable pub writeNumber : RecordWords → List ℕ → Words → ℕ
+writeNumber w l start = cond (w .«is_record») (cond (room l (start .0)) 0 20) 21
+
 -- 21 if a field exceeds its width or the record isn't of a taken form, else 20 if the words don't fit at the start
-unfoldable pub encodeNumber : Instruction → List ℕ → Words → ℕ
-encodeNumber i l start = cond (encodable i) (cond (room l (start .0)) 0 20) 21
+abbrev pub encodeNumber : Instruction → List ℕ → Words → ℕ
+encodeNumber i l start = writeNumber (wordsOf i) l start

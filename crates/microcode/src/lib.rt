@@ -20,7 +20,7 @@ use units::Words;
 use words::RecordWords;
 ghost use mathlib.Core.Path.{_≡_};
 ghost use Rattle.microcode.specs.Pair.{streamOf};
-ghost use Rattle.microcode.specs.Buffer.{decodeOf, encodeAnswer, encodeWords, writeAnswer, writeWords, Rewritten, Answers, notTaken, refused, decodedVerdict, decodeNumber, encodedVerdict, encodeNumber};
+ghost use Rattle.microcode.specs.Buffer.{decodeOf, encodeAnswer, encodeWords, writeAnswer, writeWords, writeNumber, Rewritten, Answers, notTaken, refused, decodedVerdict, decodeNumber, encodedVerdict, encodeNumber};
 ghost use Rattle.microcode.specs.Code.{putAnswer, putWords};
 
 // The five forms of a pair.
@@ -93,6 +93,7 @@ pub fn encode(i: Instruction, out: &mut [u32], start: Words) -> Encoded
 pub fn write(words: RecordWords, out: &mut [u32], start: Words) -> Encoded
     ensures { λ r. ⌜ r ≡ writeAnswer words (now (out .entry)) start ⌝ }
     ensures { λ r. ⌜ now (out .exit) ≡ writeWords words (now (out .entry)) start ⌝ }
+    ensures { λ r. ⌜ Answers (encodedVerdict r) (writeNumber words (now (out .entry)) start) ⌝ }
 {
     let at = start.0;
     if !words.is_record {

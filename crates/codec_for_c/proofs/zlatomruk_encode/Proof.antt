@@ -31,7 +31,7 @@ returns-3 c =
     let a = r .before .before .before .args in
     encode-promises (now (a .values)) (now (a .words)) (a .start) _ _
     (encode-record (now (a .values)) (now (a .words)) (a .start) _ _ _ (omega arith) (omega arith)
-    (written-record (recordOf (now (a .values))) (now (a .words)) (words (a .start)) (i .words-of .ensures) (e .write .ensures))
+    (written-record (recordOf (now (a .values))) (now (a .words)) (words (a .start)) (i .words-of .ensures) (e .write .ensures .0, e .write .ensures .1 .0))
     (c .encoded-number3 .ensures))
 
 pub zlatomruk-encode-spec : {M : Type 1} → statement M

@@ -3,16 +3,16 @@ use borrow.Author.Needs.{needs}
 use mathlib.Core.Path.{_≡_, _∙_}
 use mathlib.Core.List.{List, _++_}
 use Prim.Native.Nat.{ℕ}
-use Rattle.input.specs.Input.{judgedOf, judgedOfFiles, SevenLines}
+use Rattle.input.specs.Input.{judgedOf, judgedOfFiles, AllLines}
 use Rattle.input.specs.declared.Judged.{Judged}
-use Rattle.input.proofs.OfInput.{bad-line-beside, read-in-range, beside-answer, more-behind, seven-lines}
+use Rattle.input.proofs.OfInput.{bad-line-beside, read-in-range, beside-answer, more-behind, all-lines}
 use Rattle.input.proofs.judge_files.Statement.{statement}
 use Rattle.input.proofs.judge_files.Tie as tie
 
--- the answer, and what it is for a file of seven lines
+-- the answer, and what it is for a file of all its lines and nothing else
 both : (text pack : List ℕ) {judged : Judged} → judged ≡ judgedOfFiles text pack
-    → (judged ≡ judgedOfFiles text pack) × (SevenLines text → judged ≡ judgedOf (text ++ pack))
-both text pack e = (e, λ s. e ∙ seven-lines text pack s)
+    → (judged ≡ judgedOfFiles text pack) × (AllLines text → judged ≡ judgedOf (text ++ pack))
+both text pack e = (e, λ s. e ∙ all-lines text pack s)
 
 returns : tie.Need-returns
 returns c =
@@ -50,6 +50,7 @@ judge-files-spec =
     tie.close
     (tie.spec
     (λ c κs. search needs)
+    (λ c. search needs)
     (λ c. search needs)
     (λ c κs. search needs)
     returns

@@ -12,7 +12,7 @@ returns c =
     let r = w .before .before in
     let a = r .before .before .args in
     encode-promises (a .i) (now (a .out)) (a .start) _ _
-    (written-record (a .i) (now (a .out)) (a .start) (r .of-record .ensures) (w .write .ensures))
+    (written-record (a .i) (now (a .out)) (a .start) (r .of-record .ensures) (w .write .ensures .0, w .write .ensures .1 .0))
 
 pub encode-spec : {M : Type 1} → statement M
 encode-spec = tie.close (tie.spec (λ c κs. tt) (λ c κs. tt) (λ c. search needs) returns)

@@ -2,19 +2,21 @@
 use borrow.Author.Needs.{needs}
 use denote.Ref.{now}
 use Rattle.microcode.proofs.OfCodec.{write-refused, write-beyond, write-put}
+use Rattle.microcode.proofs.OfPromises.{write-promises}
 use Rattle.microcode.proofs.write.Statement.{statement}
 use Rattle.microcode.proofs.write.Tie as tie
 
 returns : tie.Need-returns
 returns c =
     let a = c .before .before .before .args in
-    write-refused (a .words) (now (a .out)) (a .start) (c .if1 .taken)
+    write-promises (a .words) (now (a .out)) (a .start) _ _ (write-refused (a .words) (now (a .out)) (a .start) (c .if1 .taken))
 
 returns-2 : tie.Need-returns-2
 returns-2 c =
     let u = c .before in
     let a = u .before .before .before .args in
-    write-beyond (a .words) (now (a .out)) (a .start) (u .if1 .left) (c .if2 .taken)
+    write-promises (a .words) (now (a .out)) (a .start) _ _
+    (write-beyond (a .words) (now (a .out)) (a .start) (u .if1 .left) (c .if2 .taken))
 
 returns-3 : tie.Need-returns-3
 returns-3 c =
@@ -22,7 +24,8 @@ returns-3 c =
     let b = p .before .before in
     let u = b .before in
     let a = u .before .before .before .args in
-    write-put (a .words) (now (a .out)) (a .start) _ _ (u .if1 .left) (b .if2 .left) (p .put-pair .ensures .0) (p .put-pair .ensures .1)
+    write-promises (a .words) (now (a .out)) (a .start) _ _
+    (write-put (a .words) (now (a .out)) (a .start) _ _ (u .if1 .left) (b .if2 .left) (p .put-pair .ensures .0) (p .put-pair .ensures .1))
 
 pub write-spec : {M : Type 1} → statement M
 write-spec =
