@@ -1,4 +1,5 @@
-// The verdict: what the judge answers. A rule goes by its number in document 01's table, "Numbers and what they mean".
+// The verdict: what the judge answers. A rule goes by its number in document 01's table, "Numbers and what they mean". And an explanation,
+// which is a verdict and what is to be said of it.
 ghost use mathlib.Core.Path.{_≡_};
 ghost use Rattle.checks.specs.Verdict.{isAccepted, lineOrQuadword, verdictNumber, verdictPlace, verdictSlot};
 use units::Quadwords;
@@ -16,6 +17,18 @@ pub enum Place {
 pub enum Verdict {
     Accepted,
     Refused { rule: u8, place: Place, slot: Slots },
+}
+
+// The first number in an instruction that is not granted, and the first of its sort that is not: registers, or constants of one of the sets.
+// Only rules 9 and 15 have them.
+pub enum AtFault {
+    NoNumber,
+    Number { found: usize, limit: usize },
+}
+
+pub struct Explanation {
+    pub verdict: Verdict,
+    pub fault: AtFault,
 }
 
 // Whether the pack is accepted.

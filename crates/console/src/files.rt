@@ -7,6 +7,12 @@ use libc::STDERR_FILENO;
 use libc::STDIN_FILENO;
 use units::smaller;
 
+// The program that reads, as its messages name it.
+pub enum Tool {
+    Judge,
+    Explain,
+}
+
 // How many bytes of a file stand at the start of a room, or that it could not be read.
 pub enum FileRead {
     Failed,
@@ -14,34 +20,34 @@ pub enum FileRead {
 }
 
 // Reads standard input until it ends or the room is full. What fails is told.
-pub fn read_input(room: &mut [u8]) -> FileRead
+pub fn read_input(tool: Tool, room: &mut [u8]) -> FileRead
     ensures { λ r. ⌜ Within r (now (room .exit)) ⌝ }
 {
     let read = read_all(STDIN_FILENO, room);
     if let FileRead::Failed = read {
-        tell(b"standard input");
+        tell(tool, b"standard input");
     }
     read
 }
 
 // Reads the file that argument i names, until it ends or the room is full. What fails is told.
-pub fn read_argument(i: usize, room: &mut [u8]) -> FileRead
+pub fn read_argument(tool: Tool, i: usize, room: &mut [u8]) -> FileRead
     ensures { λ r. ⌜ Within r (now (room .exit)) ⌝ }
 {
     let mut path = io::buffer();
     let n = os::arg(i, &mut path);
     if os::errno() != 0 {
-        tell(b"an argument");
+        tell(tool, b"an argument");
         return FileRead::Failed;
     }
     let file = os::open_read(&path[..n]);
     if file < 0 {
-        tell(&path[..n]);
+        tell(tool, &path[..n]);
         return FileRead::Failed;
     }
     let read = read_all(file, room);
     if let FileRead::Failed = read {
-        tell(&path[..n]);
+        tell(tool, &path[..n]);
     }
     libc::close(file);
     read
@@ -88,7 +94,11 @@ fn read_all(file: i32, room: &mut [u8]) -> FileRead
 }
 
 // Writes a line to standard error: what failed, and the system's reason.
-pub(crate) fn tell(what: &[u8]) {
-    io::write_all(STDERR_FILENO, b"judge: ");
+pub(crate) fn tell(tool: Tool, what: &[u8]) {
+    match tool {
+        Tool::Judge => io::write_all(STDERR_FILENO, b"judge: "),
+        Tool::Explain => io::write_all(STDERR_FILENO, b"explain: "),
+    }
+    ;
     os::fail(what);
 }

@@ -1,5 +1,5 @@
-// What the programs that judge share: room for what they read, standard input, files by the arguments that name them, and the report on
-// standard output.
+// What the programs that judge and explain share: room for what they read, standard input, files by the arguments that name them, and the
+// report or the explanation on standard output.
 mod files;
 
 ghost use mathlib.Core.Path.{_≡_};
@@ -8,8 +8,10 @@ ghost use lib.ListN.{length, replicate};
 ghost use Rattle.report.specs.declared.Written.the-variants.{Length};
 ghost use Rattle.report.specs.Buffer.{bufferAfter};
 ghost use Rattle.input.specs.Input.{reportOf, reportOfFiles};
-ghost use Rattle.console.specs.Rooms.{HoldsInput, HoldsCard, HoldsPack, HoldsReport};
+ghost use Rattle.explain.specs.Lines.{linesOfInput, linesOfFiles};
+ghost use Rattle.console.specs.Rooms.{HoldsInput, HoldsCard, HoldsPack, HoldsReport, HoldsExplanation};
 pub use files::FileRead;
+pub use files::Tool;
 pub use files::bytes_read;
 pub use files::is_failed;
 pub use files::read_argument;
@@ -17,8 +19,8 @@ pub use files::read_input;
 use libc::STDOUT_FILENO;
 use report::Written;
 
-// Room for a byte more than the longest card and the longest pack have: what stands behind those changes no report, so an endless input is
-// answered, too.
+// Room for a byte more than the longest card and the longest pack have: what stands behind those changes no report and no explanation, so an
+// endless input is answered, too.
 pub fn input_room() -> [u8; 65610]
     ensures { λ r. ⌜ r ≡ replicate 65610 0 ⌝ }
     ensures { λ r. ⌜ HoldsInput r ⌝ }
@@ -49,12 +51,20 @@ pub fn report_room() -> [u8; 111]
     [0; 111]
 }
 
+// Room for the longest explanation.
+pub fn explanation_room() -> [u8; 156]
+    ensures { λ r. ⌜ r ≡ replicate 156 0 ⌝ }
+    ensures { λ r. ⌜ HoldsExplanation r ⌝ }
+{
+    [0; 156]
+}
+
 // Writes the report on an input, made in the lent room; nothing where the room is too small.
 pub fn report_on(input: &[u8], room: &mut [u8])
     ensures { λ _. ⌜ now (room .exit) ≡ bufferAfter (reportOf (now (input .entry))) (now (room .entry)) ⌝ }
 {
     let written = input::report_input(input, room);
-    show(written, room);
+    show(Tool::Judge, written, room);
 }
 
 // The same on a card's file and a pack's.
@@ -62,19 +72,42 @@ pub fn report_on_files(card: &[u8], pack: &[u8], room: &mut [u8])
     ensures { λ _. ⌜ now (room .exit) ≡ bufferAfter (reportOfFiles (now (card .entry)) (now (pack .entry))) (now (room .entry)) ⌝ }
 {
     let written = input::report_files(card, pack, room);
-    show(written, room);
+    show(Tool::Judge, written, room);
 }
 
-// A report that can't be written is told on standard error.
-fn show(written: Written, room: &[u8])
+// The same with the explanation.
+pub fn explain_on(input: &[u8], room: &mut [u8])
+    ensures { λ _. ⌜ now (room .exit) ≡ bufferAfter (linesOfInput (now (input .entry))) (now (room .entry)) ⌝ }
+{
+    let written = explain::write_input_explanation(input, room);
+    show(Tool::Explain, written, room);
+}
+
+// The same on a card's file and a pack's.
+pub fn explain_on_files(card: &[u8], pack: &[u8], room: &mut [u8])
+    ensures { λ _. ⌜ now (room .exit) ≡ bufferAfter (linesOfFiles (now (card .entry)) (now (pack .entry))) (now (room .entry)) ⌝ }
+{
+    let written = explain::write_files_explanation(card, pack, room);
+    show(Tool::Explain, written, room);
+}
+
+// What can't be written is told on standard error.
+fn show(tool: Tool, written: Written, room: &[u8])
     requires { ⌜ ((n : ℕ) → written ≡ Length n → n ≤ length (now room)) ⌝ }
 {
     match written {
         Written::Length(n) => {
             if !io::write_all(STDOUT_FILENO, &room[..n]) {
-                files::tell(b"the report was not written");
+                tell_unwritten(tool);
             }
         }
         Written::TooSmall => {}
+    }
+}
+
+fn tell_unwritten(tool: Tool) {
+    match tool {
+        Tool::Judge => files::tell(tool, b"the report was not written"),
+        Tool::Explain => files::tell(tool, b"the explanation was not written"),
     }
 }

@@ -79,7 +79,7 @@ fn is_bad(kind: FetchKind, number: u32, word3: u32) -> bool
 }
 
 // A semantic fetch looks its destination up, and names none.
-fn is_semantic(kind: FetchKind, number: u32) -> bool
+pub fn is_semantic(kind: FetchKind, number: u32) -> bool
     ensures { λ r. ⌜ r ≡ isSemantic kind number ⌝ }
 {
     match kind {

@@ -37,7 +37,7 @@ pack-narrow card pack = by (testOf card) refl
     by (test.BadLine n) e = line-narrow n (omega (arith, bad-figure card n e .1))
     by test.InRange e = by-right (rightLength (card .quads) (length pack))
 
-input-narrow : (input : List ℕ) → Narrow (judgedOf input .verdict)
+pub input-narrow : (input : List ℕ) → Narrow (judgedOf input .verdict)
 unfolding judgedOf
 input-narrow input = by (cardOf input) refl
   where

@@ -25,7 +25,7 @@ use Rattle.input.proofs.OfInput.{wrong-length, bad-length, report-on, r
 -- ---- the pack
 
 -- no card allows a pack of 65,537 bytes
-too-long : (card : Card) → testOf card ≡ InRange → (pack : List ℕ) → 65537 ≤ length pack → badLength ≡ packVerdict card pack
+pub too-long : (card : Card) → testOf card ≡ InRange → (pack : List ℕ) → 65537 ≤ length pack → badLength ≡ packVerdict card pack
 too-long card in-range pack l =
     let r = range-figures card in-range in
     bad-length card pack in-range (wrong-length (card .quads) (length pack) (λ k. omega (arith, r .quads-most))) refl refl
@@ -43,7 +43,7 @@ pack-cut card in-range pack all h = by (ltb all (length pack)) refl
 -- ---- one behind the other
 
 -- 65,610 bytes are enough to read: one more than the longest card and the longest pack have
-enough-read : (input : List ℕ) (all : ℕ) → 65610 ≤ all → judgedOf (take all input) ≡ judgedOf input
+pub enough-read : (input : List ℕ) (all : ℕ) → 65610 ≤ all → judgedOf (take all input) ≡ judgedOf input
 unfolding judgedOf
 enough-read input all h = ap (behindCard (take all input)) (card-cut input all (omega arith)) ∙ by (cardOf input) refl
   where
@@ -62,7 +62,7 @@ enough input all h = sym (report-on (take all input) (judgedOf input) (sym (enou
 
 module _ (text pack : List ℕ) where
   -- 74 bytes of the card's file are enough, one more than the longest card has
-  enough-of-card : (all : ℕ) → 74 ≤ all → judgedOfFiles (take all text) pack ≡ judgedOfFiles text pack
+  pub enough-of-card : (all : ℕ) → 74 ≤ all → judgedOfFiles (take all text) pack ≡ judgedOfFiles text pack
   unfolding judgedOfFiles
   enough-of-card all h = ap (besideCard (take all text) pack) (card-cut text all (omega arith)) ∙ by (cardOf text) refl
     where
@@ -77,7 +77,7 @@ module _ (text pack : List ℕ) where
       by (BadLine n) e = refl
 
   -- and 65,537 of the pack's, one more than the longest pack has
-  enough-of-pack : (all : ℕ) → 65537 ≤ all → judgedOfFiles text (take all pack) ≡ judgedOfFiles text pack
+  pub enough-of-pack : (all : ℕ) → 65537 ≤ all → judgedOfFiles text (take all pack) ≡ judgedOfFiles text pack
   unfolding judgedOfFiles
   enough-of-pack all h = by (cardOf text) refl
     where

@@ -1,11 +1,16 @@
 -- The words of some bytes one by one, and a room that is filled with them word by word. Assumes nothing.
 use mathlib.Core.Path.{_≡_, refl, ap, sym, _∙_}
 use mathlib.Core.List.{List, [], _∷_, _++_}
-use Prim.Native.Nat.{ℕ, zero, suc, _+_, _*_, _/_, _≤_, _<_}
+use mathlib.Core.Bool.{true, false}
+use Prim.Native.Nat.{ℕ, zero, suc, _+_, _*_, _/_, _^_, _≤_, _<_}
 use native.Mathlib.Numerals.{add-one}
 use native.Mathlib.Omega.{arith}
-use lib.ListN.{length, getD, take, set, length-set}
+use lib.Dec.{ltb}
+use lib.ListN.{length, getD, take, set, length-set, List·getD-eq-default}
+use borrow.Author.Tests.{ltb-true, ltb-false}
 use lib.Seq.{take-suc, take-suc-set, take-all}
+use Rattle.laws.proofs.OfTests.{by-test}
+use Rattle.units.specs.Code.{capped}
 use Rattle.input.specs.Words.{littleEndian, wordsIn, wordAt}
 
 -- ---- one word
@@ -44,6 +49,20 @@ word-is (a ∷ b ∷ []) i h = absurd (omega arith)
 word-is (a ∷ b ∷ c ∷ []) i h = absurd (omega arith)
 word-is (a ∷ b ∷ c ∷ d ∷ s) zero h = first a b c d s
 word-is (a ∷ b ∷ c ∷ d ∷ s) (suc i) h = word-is s i (omega arith) ∙ sym (word-on a b c d s i)
+
+-- a number that was cut to 64 bits lies behind every list that 64 bits count, as it did before
+pub cut-word : (w : List ℕ) (n : ℕ) {i : ℕ} → length w < 2 ^ 64 → i ≡ capped n → getD w i 0 ≡ getD w n 0
+cut-word w n {i} few e = by-test (ltb n (length w)) inside behind
+  where
+    inside : ltb n (length w) ≡ true → getD w i 0 ≡ getD w n 0
+    inside t =
+        let k : i ≡ n = omega (arith, e, few, ltb-true n (length w) t) in
+        ap (λ (j : ℕ). getD w j 0) k
+
+    behind : ltb n (length w) ≡ false → getD w i 0 ≡ getD w n 0
+    behind t =
+        let h = ltb-false n (length w) t in
+        List·getD-eq-default w 0 (omega (arith, e, few, h)) ∙ sym (List·getD-eq-default w 0 h)
 
 -- ---- word by word, as the loop puts them
 

@@ -29,6 +29,7 @@ use report::ReportBuild;
 use report::Written;
 use units::Quadwords;
 use units::Slots;
+pub use words::word_of;
 
 // What the report is made of.
 pub struct Judged {

@@ -1,8 +1,10 @@
 // A pack's bytes as words.
 ghost use mathlib.Core.Path.{_≡_};
-ghost use Prim.Native.Nat.{_+_, _/_, _<_, _≤_};
-ghost use lib.ListN.{length, take};
+ghost use Prim.Native.Nat.{ℕ, _+_, _/_, _<_, _≤_};
+ghost use lib.ListN.{length, take, getD};
+ghost use Rattle.units.specs.Code.{capped};
 ghost use Rattle.input.specs.Words.{wordsIn, wordAt};
+use units::Words;
 
 // Puts the words of `bytes` at the start of `words`, and answers how many they are.
 pub(crate) fn load(bytes: &[u8], words: &mut [u32]) -> usize
@@ -17,6 +19,18 @@ pub(crate) fn load(bytes: &[u8], words: &mut [u32]) -> usize
         i += 1;
     }
     n
+}
+
+// A word of a pack in bytes by its number; 0 where there is none, as where a number was cut to 64 bits.
+pub fn word_of(bytes: &[u8], i: Words) -> u32
+    ensures { λ r. ⌜ r ≡ getD (wordsIn (now (bytes .entry))) (i .0) 0 ⌝ }
+    ensures { λ r. ⌜ ((n : ℕ) → i .0 ≡ capped n → r ≡ getD (wordsIn (now (bytes .entry))) n 0) ⌝ }
+{
+    if i.0 < bytes.len() / 4 {
+        word_at(bytes, i.0 * 4)
+    } else {
+        0
+    }
 }
 
 // The word whose lowest byte stands at a place.

@@ -135,7 +135,8 @@ pub fn has_relative(low: u32, high: u32) -> bool
     destination | (first | (second | third))
 }
 
-fn is_written(high: u32) -> bool
+// Whether the destination is written.
+pub fn is_written(high: u32) -> bool
     ensures { λ r. ⌜ r ≡ instruction.isWritten high ⌝ }
 {
     is_op3(high) | (read(high, fields::WRITE_MASK) == 1)

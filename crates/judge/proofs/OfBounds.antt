@@ -2,10 +2,9 @@
 -- 7, a quadword of the section at most 512, and a clause has at most 128 slots. By a walk over the lists of checks, which says nothing of
 -- when a check is broken. Assumes nothing.
 use Prim.Native.Nat.{ℕ, zero, suc, _≤_, _<_, _^_}
-use mathlib.Core.Path.{_≡_, refl, subst}
+use mathlib.Core.Path.{_≡_, refl}
 use mathlib.Core.Bool.{Bool, true, false, cond}
-use mathlib.Core.List.{List, [], _∷_, _++_}
-use native.Mathlib.Nat.{le-refl, le-step}
+use mathlib.Core.List.{List, [], _∷_}
 use native.Mathlib.Omega.{arith}
 use borrow.Author.Tests.{ltb-true}
 use Rattle.units.specs.declared.Quadwords.{Quadwords}
@@ -15,7 +14,8 @@ use Rattle.checks.specs.declared.Place.the-variants.{Whole, Line, Quadword}
 use Rattle.checks.specs.declared.Verdict.{Verdict}
 use Rattle.checks.specs.declared.Verdict.the-variants.{Accepted, Refused}
 use Rattle.checks.specs.Verdict.{lineOrQuadword, verdictNumber, verdictPlace, verdictSlot}
-use Rattle.checks.specs.Checks.{Check, check, below}
+use Rattle.checks.specs.Checks.{Check, check}
+use Rattle.checks.proofs.OfEach.{Each, empty, more, each-joined, each-below, each-if, each-first}
 use Rattle.card.specs.declared.Card.{Card}
 use Rattle.card.specs.declared.CardRead.{CardRead}
 use Rattle.card.specs.declared.CardRead.the-variants as read
@@ -58,28 +58,8 @@ record NarrowCheck (c : Check) : Type 0 where
   place : lineOrQuadword (c .place) < 2 ^ 16
   slot : c .slot .0 < 2 ^ 16
 
--- the same of each check of a list
-data AllNarrow : List Check → Type 0 where
-  empty : AllNarrow []
-  more : {c : Check} {cs : List Check} → NarrowCheck c → AllNarrow cs → AllNarrow (c ∷ cs)
-
-joined : {a b : List Check} → AllNarrow a → AllNarrow b → AllNarrow (a ++ b)
-joined empty k = k
-joined (more c h) k = more c (joined h k)
-
-in-row : (f : ℕ → List Check) (n : ℕ) → ((i : ℕ) → i < n → AllNarrow (f i)) → AllNarrow (below f n)
-unfolding below
-in-row f zero h = empty
-in-row f (suc n) h = joined (in-row f n (λ i l. h i (le-step l))) (h n (le-refl (suc n)))
-
-if-asked : (t : Bool) {cs : List Check} → AllNarrow cs → AllNarrow (cond t cs [])
-if-asked true h = h
-if-asked false h = empty
-
--- a check inside of a list
-inside-list : (a b : List Check) (c : Check) → AllNarrow (a ++ (c ∷ b)) → NarrowCheck c
-inside-list [] b c (more n h) = n
-inside-list (d ∷ a) b c (more n h) = inside-list a b c h
+abbrev AllNarrow : List Check → Type 0
+AllNarrow = Each NarrowCheck
 
 -- ---- a clause has at most 128 slots or fetches: COUNT has 7 bits or 4
 
@@ -113,14 +93,14 @@ module _ (place : Quadwords) (near : place .0 < 2 ^ 16) where
       → AllNarrow (fetches.clauseChecks kind limits w place s n)
   unfolding fetches.clauseChecks fetches.fetchChecks
   in-fetches kind limits w s n few =
-      if-asked (liesIn _ s (fetchesLength n))
-      (in-row (fetches.fetchChecks kind limits w place s) (n .0)
+      each-if (liesIn _ s (fetchesLength n))
+      (each-below (fetches.fetchChecks kind limits w place s) (n .0)
       (λ i l. at 8 _ (omega arith, omega arith) (omega arith) (at 9 _ (omega arith, omega arith) (omega arith) empty)))
 
   -- a rule asked of each instruction of a group
   in-each : (r : ℕ) (g : Slots) (f : ℕ → Bool) (m : ℕ) → Numbered r → g .0 < 128 → m ≤ 5 → AllNarrow (eachOf r place g f m)
   unfolding eachOf
-  in-each r g f m n inside few = in-row _ m (λ j l. at r _ n (omega arith) empty)
+  in-each r g f m n inside few = each-below _ m (λ j l. at r _ n (omega arith) empty)
 
   -- 11 to 15
   in-group :
@@ -128,9 +108,9 @@ module _ (place : Quadwords) (near : place .0 < 2 ^ 16) where
       → AllNarrow (ruleChecks place g limits kills lo hi m)
   unfolding ruleChecks
   in-group g limits kills lo hi m inside few =
-      joined (in-each 11 g _ m (omega arith, omega arith) inside few)
-      (joined (in-each 12 g _ m (omega arith, omega arith) inside few)
-      (joined (in-each 13 g _ m (omega arith, omega arith) inside few)
+      each-joined (in-each 11 g _ m (omega arith, omega arith) inside few)
+      (each-joined (in-each 12 g _ m (omega arith, omega arith) inside few)
+      (each-joined (in-each 13 g _ m (omega arith, omega arith) inside few)
       (at 14 g (omega arith, omega arith) (omega arith) (in-each 15 g _ m (omega arith, omega arith) inside few))))
 
   module _ (pixel : Bool) (limits : Limits) (w : List ℕ) (s : Quadwords) (n : Slots) (few : n .0 ≤ 128) where
@@ -149,8 +129,8 @@ module _ (place : Quadwords) (near : place .0 < 2 ^ 16) where
             (t : Bool) → isSlotBelow g n ≡ t → (bad : Bool) (gs : List Slots) → AllNarrow (alu.checksOf pixel limits w place s n gs)
             → AllNarrow (alu.checksOf pixel limits w place s n (cond t (g ∷ cond bad [] gs) []))
         by false e bad gs r = empty
-        by true e true gs r = joined (in-shaped g (omega (arith, ltb-true (g .0) (n .0) e))) empty
-        by true e false gs r = joined (in-shaped g (omega (arith, ltb-true (g .0) (n .0) e))) r
+        by true e true gs r = each-joined (in-shaped g (omega (arith, ltb-true (g .0) (n .0) e))) empty
+        by true e false gs r = each-joined (in-shaped g (omega (arith, ltb-true (g .0) (n .0) e))) r
 
   -- 10 to 15
   in-alu :
@@ -158,8 +138,8 @@ module _ (place : Quadwords) (near : place .0 < 2 ^ 16) where
       → AllNarrow (alu.clauseChecks kind push limits w place s n)
   unfolding alu.clauseChecks alu.groupsOf
   in-alu kind push limits w s n few =
-      if-asked (liesIn _ s (slotsLength n))
-      (joined (in-groups _ limits w s n few (n .0) (slots 0)) (of-pair 14 (omega arith, omega arith) empty))
+      each-if (liesIn _ s (slotsLength n))
+      (each-joined (in-groups _ limits w s n few (n .0) (slots 0)) (of-pair 14 (omega arith, omega arith) empty))
 
   -- 8 to 15
   in-clause : (card : Card) (w : List ℕ) (k : Clause) → Few k → AllNarrow (clauseChecks card w place k)
@@ -182,7 +162,7 @@ in-pair card w e p near =
 
 in-first : (card : Card) (w : List ℕ) (e p : ℕ) → p < 2 ^ 16 → AllNarrow (firstChecks card w e p)
 unfolding firstChecks stackChecks
-in-first card w e p near = joined (in-pair card w e p near)
+in-first card w e p near = each-joined (in-pair card w e p near)
     (of-pair (quadwords p) near 16 (omega arith, omega arith) (of-pair (quadwords p) near 17 (omega arith, omega arith) empty))
 
 in-second : (e : ℕ) (code : ℕ → Flow) (p : ℕ) → p < 2 ^ 16 → AllNarrow (secondChecks e code p)
@@ -193,8 +173,8 @@ in-second e code p near =
 in-passes : (card : Card) (w : List ℕ) (e : ℕ) → e ≤ 512 → AllNarrow (passes card w e)
 unfolding passes
 in-passes card w e most =
-    joined (in-row _ (suc e) (λ p l. in-first card w e p (omega arith)))
-    (in-row _ (suc e) (λ p l. in-second e _ p (omega arith)))
+    each-joined (each-below _ (suc e) (λ p l. in-first card w e p (omega arith)))
+    (each-below _ (suc e) (λ p l. in-second e _ p (omega arith)))
 
 -- ---- the verdict
 
@@ -211,7 +191,7 @@ in-lines card = line 3 (omega arith) (line 4 (omega arith) (line 5 (omega arith)
 in-checks : (card : Card) (w : List ℕ) → AllNarrow (checks card w)
 unfolding checks
 in-checks card w =
-    joined (in-lines card)
+    each-joined (in-lines card)
     (more {c = check 2 Whole (slots 0) (badLength w (card .quads))}
     (record { rule = (omega arith, omega arith); place = omega arith; slot = omega arith })
     (more {c = check 3 Whole (slots 0) (noEnd w)}
@@ -226,7 +206,7 @@ judgement-narrow card w = by (judgement card w) refl
     by Accepted e = record { number = omega arith; refused = λ z. refl; place = omega arith; slot = omega arith }
     by (Refused r p s) e =
         let b = judged-refused card w r p s .0 e in
-        let h = inside-list (b .earlier) (b .later) (check r p s true) (subst AllNarrow (b .parts) (in-checks card w)) in
+        let h = each-first (checks card w) r p s (in-checks card w) b in
         record { number = h .rule .1; refused = λ z. absurd (omega (arith, h .rule .0)); place = h .place; slot = h .slot }
 
 -- a line at fault

@@ -24,6 +24,7 @@ ghost use Rattle.judge.specs.Code.{InWords, Section, At, Found, Stepped}
 mod pairs;
 mod stack;
 
+pub use pairs::limits_with;
 use stack::Ahead;
 
 // The verdict on a pack by a card. Whatever the words and the card are, there is an answer; and where it is Accepted, every walk is safe.

@@ -124,7 +124,8 @@ fn clause_verdict(card: Card, words: &[u32], place: Quadwords, clause: Clause) -
     }
 }
 
-fn limits_with(card: Card, mode0: u32, mode1: u32) -> Limits
+// What is granted in a clause of those modes; in a fetch clause they make no difference.
+pub fn limits_with(card: Card, mode0: u32, mode1: u32) -> Limits
     ensures { λ r. ⌜ r ≡ order.limitsWith card mode0 mode1 ⌝ }
 {
     Limits {

@@ -1,5 +1,6 @@
 // judge_files CARD PACK: judges a pack's file by a card's and writes the report to standard output. Where a file can't be read it says so on
 // standard error and writes no report.
+use console::Tool;
 use libc::STDERR_FILENO;
 
 fn main() {
@@ -8,12 +9,12 @@ fn main() {
         return;
     }
     let mut card = console::card_room();
-    let card_read = console::read_argument(1, &mut card);
+    let card_read = console::read_argument(Tool::Judge, 1, &mut card);
     if console::is_failed(card_read) {
         return;
     }
     let mut pack = console::pack_room();
-    let pack_read = console::read_argument(2, &mut pack);
+    let pack_read = console::read_argument(Tool::Judge, 2, &mut pack);
     if console::is_failed(pack_read) {
         return;
     }

@@ -1,8 +1,10 @@
 // Reads a card and behind it a pack from standard input, and writes the report on them to standard output. Where it can't be read the program
 // says so on standard error and writes no report.
+use console::Tool;
+
 fn main() {
     let mut bytes = console::input_room();
-    let read = console::read_input(&mut bytes);
+    let read = console::read_input(Tool::Judge, &mut bytes);
     if console::is_failed(read) {
         return;
     }

@@ -1,4 +1,4 @@
--- Worked examples, by computation: whole reports, and numbers in decimal.
+-- Worked examples, by computation: whole reports and explanations, and numbers in decimal.
 use mathlib.Core.Path.{_≡_, refl}
 use mathlib.Core.List.{[], _∷_}
 use Prim.Native.Nat.{_-_, _^_}
@@ -6,11 +6,13 @@ use Rattle.units.specs.Units.{quadwords, slots}
 use Rattle.checks.specs.declared.Place.the-variants.{Line, Quadword}
 use Rattle.checks.specs.declared.Verdict.{Verdict}
 use Rattle.checks.specs.declared.Verdict.the-variants.{Accepted, Refused}
+use Rattle.checks.specs.declared.AtFault.the-variants.{NoNumber, Number}
 use Rattle.report.specs.declared.ReportBuild.the-variants.{Production, Debug}
 use Rattle.report.specs.declared.Written.the-variants.{Length, TooSmall}
 use Rattle.ascii.specs.Ascii.{ascii}
 use Rattle.ascii.specs.Decimal.{decimal, decimalWithin}
 use Rattle.report.specs.Report.{reportLines, reportBytes}
+use Rattle.report.specs.Explanation.{ruleWord, explanationLines, explanationBytes}
 use Rattle.report.specs.Buffer.{writtenOf, bufferAfter}
 
 -- a text's bytes
@@ -62,6 +64,21 @@ refused-debug = refl
 card-line : reportBytes Production (Refused 1 (Line 7) (slots 0)) ≡ ascii "build=unknown\nverdict=1\nplace=7\nslot=0\nrelease=no\n"
 unfolding reportBytes reportLines decimal decimalWithin
 card-line = refl
+
+-- ---- explanations
+
+-- register 12 where the card grants 8
+a-register-too-high : explanationBytes (record { verdict = not-granted; fault = Number 12 8 }) ≡ ascii "verdict=15\nplace=40\nslot=3\nrule=not-granted\nfound=12\nlimit=8\n"
+unfolding explanationBytes explanationLines ruleWord decimal decimalWithin
+a-register-too-high = refl
+
+without-numbers : explanationBytes (record { verdict = Refused 1 (Line 7) (slots 0); fault = NoNumber }) ≡ ascii "verdict=1\nplace=7\nslot=0\nrule=card-line\nfound=-\nlimit=-\n"
+unfolding explanationBytes explanationLines ruleWord decimal decimalWithin
+without-numbers = refl
+
+accepted-in-one-line : explanationBytes (record { verdict = Accepted; fault = NoNumber }) ≡ ascii "verdict=0\n"
+unfolding explanationBytes explanationLines decimal decimalWithin
+accepted-in-one-line = refl
 
 -- ---- buffers: seven bytes of report, with room for one more, just enough, and one too few
 

@@ -2,5 +2,7 @@
 pub mod OfDigits
 pub mod OfBuffer
 pub mod OfReport
+pub mod OfRules
 pub mod OfLines
+pub mod OfExplanation
 pub mod Examples

@@ -1,5 +1,5 @@
 -- Bytes put into a buffer one run behind the other: two runs in a row are one, and a run from the start is the buffer that the
--- contract of `write_report` gives. Assumes nothing.
+-- contract of `put_whole` gives. Assumes nothing.
 use mathlib.Core.Path.{_≡_, refl, sym, ap, ap₂, subst, _∙_}
 use mathlib.Core.Bool.{Bool, true, false, cond}
 use mathlib.Core.List.{List, [], _++_, append-nil, append-assoc}
@@ -11,6 +11,7 @@ use borrow.Author.Tests.{le-leb, lt-leb, leb-true}
 use lib.ListN.{length, getD, take, drop, set, length-append, length-take, length-set, take-append-drop}
 use lib.Seq.{take-all, drop-drop, paste, paste-zero, paste-suc, take-paste, drop-paste}
 use Rattle.laws.proofs.OfCases.{impossible}
+use Rattle.report.specs.declared.Written.{Written}
 use Rattle.report.specs.declared.Written.the-variants.{Length, TooSmall}
 use Rattle.report.specs.Buffer.{room, writtenOf, bufferAfter}
 use Rattle.report.specs.Code.{Appended}
@@ -95,6 +96,11 @@ no-room-answer bytes buffer h = rw (lt-leb (length bytes) (length buffer) h)
 pub no-room-buffer : (bytes buffer : List ℕ) → length buffer < length bytes → buffer ≡ bufferAfter bytes buffer
 unfolding bufferAfter
 no-room-buffer bytes buffer h = rw (lt-leb (length bytes) (length buffer) h)
+
+-- what is answered and left in the buffer for bytes by another name
+pub put-as-made : {xs ys : List ℕ} (buffer : List ℕ) {later : List ℕ} {answer : Written} → xs ≡ ys → (answer ≡ writtenOf xs buffer) × (later ≡ bufferAfter xs buffer) → (answer ≡ writtenOf ys buffer) × (later ≡ bufferAfter ys buffer)
+put-as-made buffer {later} {answer} e p =
+    subst (λ (l : List ℕ). (answer ≡ writtenOf l buffer) × (later ≡ bufferAfter l buffer)) e p
 
 -- what a caller learns from the answer: so many bytes of its buffer are the report
 pub written-within : (bytes buffer : List ℕ) (n : ℕ) → Length n ≡ writtenOf bytes buffer → n ≤ length buffer

@@ -45,7 +45,7 @@ feedless-answer true = refl
 feedless-answer false = refl
 
 -- a line before others is the first of them
-line-first : (key : String) (value rest : List ℕ) → feedless (ascii key) ≡ true → feedless value ≡ true → linesOf (line key value ++ rest) ≡ line key value ∷ linesOf rest
+pub line-first : (key : String) (value rest : List ℕ) → feedless (ascii key) ≡ true → feedless value ≡ true → linesOf (line key value ++ rest) ≡ line key value ∷ linesOf rest
 line-first key value rest h k =
     ap linesOf
     (append-assoc (ascii key) (61 ∷ (value ++ (10 ∷ []))) rest
@@ -132,7 +132,7 @@ unknown-build-on-card-line build place slot = unknown-build build (Refused 1 pla
 
 -- ---- how long a report is
 
-number-line-length : (key : String) (n : ℕ) → n < 2 ^ 64 → length (line key (decimal n)) ≤ length (ascii key) + 22
+pub number-line-length : (key : String) (n : ℕ) → n < 2 ^ 64 → length (line key (decimal n)) ≤ length (ascii key) + 22
 number-line-length key n h =
     omega (
       arith,

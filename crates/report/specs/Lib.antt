@@ -1,4 +1,5 @@
 -- The root of what the contracts cite.
 pub mod Report
+pub mod Explanation
 pub mod Buffer
 pub mod Code

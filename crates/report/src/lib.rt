@@ -1,7 +1,8 @@
-// The judge's report: five lines as bytes in a lent buffer.
+// The judge's report, and an explanation of its verdict: lines as bytes in a lent buffer.
 //
-// The report is made in a buffer of this crate's own first: a lent buffer that is too small stays as it was, and how many bytes a
+// They are made in a buffer of this crate's own first: a lent buffer that is too small stays as it was, and how many bytes a
 // report has is known only once its numbers are written.
+mod explanation;
 mod text;
 
 ghost use mathlib.Core.Path.{_≡_};
@@ -11,6 +12,7 @@ ghost use Rattle.report.specs.Report.{line, shownBuild, buildText, relea
 ghost use Rattle.report.specs.Buffer.{writtenOf, bufferAfter};
 ghost use Rattle.report.specs.Code.{Appended};
 use checks::Verdict;
+pub use explanation::write_explanation;
 
 // What is known of the card's build line.
 pub enum ReportBuild {
@@ -19,7 +21,7 @@ pub enum ReportBuild {
     Debug,
 }
 
-// How many bytes were written, or that the buffer is too small for the report.
+// How many bytes were written, or that the buffer is too small for them.
 pub enum Written {
     Length(usize),
     TooSmall,
@@ -32,11 +34,18 @@ pub fn write_report(build: ReportBuild, verdict: Verdict, out: &mut [u8]) -> Wri
 {
     let mut report = [0u8; 111];
     let length = compose(build, verdict, &mut report);
-    if out.len() < length {
+    put_whole(out, &report[..length])
+}
+
+// Puts bytes to the start of `out`; where they do not fit, `out` stays as it was.
+pub(crate) fn put_whole(out: &mut [u8], bytes: &[u8]) -> Written
+    ensures { λ r. ⌜ r ≡ writtenOf (now (bytes .entry)) (now (out .entry)) ⌝ }
+    ensures { λ _. ⌜ now (out .exit) ≡ bufferAfter (now (bytes .entry)) (now (out .entry)) ⌝ }
+{
+    if out.len() < bytes.len() {
         return Written::TooSmall;
     }
-    text::put(out, 0, &report[..length]);
-    Written::Length(length)
+    Written::Length(text::put(out, 0, bytes))
 }
 
 // The five lines. No report is longer than 111 bytes: build=production, release=yes and three numbers of 20 digits.

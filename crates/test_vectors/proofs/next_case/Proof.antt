@@ -24,6 +24,7 @@ next-case-spec =
     (λ c κs. tt)
     (λ c. search needs)
     slice-aggregate-judge-next
+    (λ c. search needs)
     (λ c κs. tt)
     (λ c. search needs)
     (λ c. search needs)

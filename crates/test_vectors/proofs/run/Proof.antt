@@ -6,10 +6,10 @@ use Rattle.test_vectors.proofs.run.Statement.{statement}
 use Rattle.test_vectors.proofs.run.Tie as tie
 
 abbrev Inv-loop : tie.InvT-loop
-Inv-loop bytes₀ report₀ left₀ bytes report left = (length bytes ≡ length bytes₀) × (length report ≡ length report₀)
+Inv-loop bytes₀ room₀ left₀ bytes room left = (length bytes ≡ length bytes₀) × (length room ≡ length room₀)
 
 abbrev μ-loop : tie.MeasureT-loop
-μ-loop bytes₀ report₀ left₀ bytes report left = left
+μ-loop bytes₀ room₀ left₀ bytes room left = left
 
 loop-holds : tie.Need-loop-holds Inv-loop μ-loop
 loop-holds c = search needs
