@@ -51,6 +51,7 @@ holds "--all: it is named, too" grep -q "alone	no pack	release=no" "$work/out"
 mkdir "$work/many/alone.pack" "$work/empty"
 run ./judge --all "$work/many"
 holds "--all: a folder for a pack is not judged" [ "$status" -eq 2 ]
+holds "--all: why is told" grep -qx "judge: not a file: $work/many/alone.pack" "$work/err"
 answers "--all: nothing to judge" 2 ./judge --all "$work/empty"
 answers "--all: no such folder" 2 ./judge --all "$work/nowhere"
 

@@ -35,7 +35,7 @@ answers "no such card" 2 ./judge "$odd/nowhere.card" $pack
 answers "no such pack" 2 ./judge $card "$odd/nowhere.pack"
 answers "a folder for a card" 2 ./judge "$odd" $pack
 answers "a folder for a pack" 2 ./judge $card "$odd"
-answers "a device" 2 ./judge $card /dev/zero
+answers "a device" 2 timeout 20 ./judge $card /dev/zero
 answers "no argument" 2 ./judge
 answers "one argument" 2 ./judge $card
 answers "three arguments" 2 ./judge $card $pack $pack

@@ -5,6 +5,8 @@ holds "./install" ./install "$prefix"
 judge="$prefix/bin/judge"
 reports "installed, without the kit" "0 0 0 yes" without_kit "$judge" examples/copy.card examples/copy.pack
 reports "installed, a refused pack" "19 1 0 no" without_kit "$judge" examples/jump-keeps-its-frame.card examples/jump-keeps-its-frame.pack
+ln -s "$judge" "$work/else where/installed"
+reports "a link to the installed judge" "0 0 0 yes" without_kit "$work/else where/installed" examples/copy.card examples/copy.pack
 holds "installed --all" sh -c "'$judge' --all '$work/hundreds' >/dev/null 2>&1"
 holds "installed judge_pack" sh -c "cat examples/copy.card examples/copy.pack | '$prefix/bin/judge_pack' | cmp -s - examples/copy.report"
 holds "installed --version: version and kit" sh -c "'$judge' --version | grep -qx 'judge $(cat VERSION)' && '$judge' --version | grep -qx 'proved with $(rt version)'"

@@ -1,6 +1,6 @@
 # shellcheck shell=sh disable=SC2154
 # What the docs say and can be held against what is there.
-for doc in README.md CHANGELOG.md bench/README.md examples/README.md docs/*.md; do
+for doc in README.md CHANGELOG.md bench/README.md examples/README.md docs/*.md docs/landings/*.md; do
     folder=$(dirname "$doc")
     for link in $(grep -o ']([^)#]*' "$doc" | sed 's/^](//' | grep -v '^http'); do
         holds "$doc: link to $link" [ -e "$folder/$link" ]

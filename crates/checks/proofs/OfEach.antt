@@ -1,6 +1,6 @@
 -- What holds of each check of a list, from lists that are joined. Assumes nothing.
 use Prim.Native.Nat.{ℕ, zero, suc, _<_}
-use mathlib.Core.Path.{_≡_, subst}
+use mathlib.Core.Path.{_≡_, refl, subst}
 use mathlib.Core.Bool.{Bool, true, false, cond}
 use mathlib.Core.List.{List, [], _∷_, _++_}
 use native.Mathlib.Nat.{le-refl, le-step}
@@ -23,8 +23,8 @@ module _ {P : Check → Type 0} where
   each-below f zero h = empty
   each-below f (suc n) h = each-joined (each-below f n (λ i l. h i (le-step l))) (h n (le-refl (suc n)))
 
-  pub each-if : (t : Bool) {cs : List Check} → Each P cs → Each P (cond t cs [])
-  each-if true h = h
+  pub each-if : (t : Bool) {cs : List Check} → (t ≡ true → Each P cs) → Each P (cond t cs [])
+  each-if true h = h refl
   each-if false h = empty
 
   each-inside : (a b : List Check) (c : Check) → Each P (a ++ (c ∷ b)) → P c

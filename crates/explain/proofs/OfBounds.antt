@@ -28,10 +28,9 @@ use Rattle.report.specs.Explanation.{explanationBytes}
 use Rattle.report.proofs.OfExplanation.{Of64Bits, at-most-156-bytes}
 use Rattle.judge.specs.Judge.{limitsIn}
 use Rattle.judge.proofs.OfBounds.{Narrow}
-use Rattle.input.specs.Words.{wordsIn}
 use Rattle.input.specs.Input.{judgedOf, judgedOfFiles}
 use Rattle.input.proofs.OfBounds.{input-narrow, files-narrow}
-use Rattle.explain.specs.Explain.{asksNames, namedIn, faultAt, faultOf, byRead, packBehind, explanationOf, explanationOfFiles}
+use Rattle.explain.specs.Explain.{asksNames, namedIn, faultAt, faultOf, byRead, explanationOf, explanationOfFiles}
 use Rattle.explain.specs.Lines.{linesOfInput, linesOfFiles}
 
 -- ---- found and limit

@@ -9,10 +9,9 @@ use borrow.Author.Tests.{not-true, eq-eqb, ne-eqb}
 use Rattle.laws.proofs.OfCases.{impossible}
 use Rattle.units.specs.declared.Quadwords.{Quadwords}
 use Rattle.units.specs.declared.Slots.{Slots}
-use Rattle.units.specs.Units.{lowAt, highAt, slotQuadword}
-use Rattle.formats.specs.Fields.{_of_, «FETCH_INST»}
+use Rattle.formats.specs.Fields.{_of_}
 use Rattle.checks.specs.declared.AtFault.{AtFault}
-use Rattle.checks.specs.declared.AtFault.the-variants.{NoNumber, Number}
+use Rattle.checks.specs.declared.AtFault.the-variants.{NoNumber}
 use Rattle.checks.specs.declared.Explanation.{Explanation}
 use Rattle.checks.specs.declared.Place.{Place}
 use Rattle.checks.specs.declared.Place.the-variants as place
@@ -39,10 +38,10 @@ use Rattle.input.specs.Words.{wordsIn}
 use Rattle.input.specs.Input.{badLine, badLength, rightLength, byTest, packVerdict, judgedBy, withoutCard, behindCard, judgedOf, besideCard, judgedOfFiles}
 use Rattle.explain.specs.Explain.{asksNames, namedIn, faultAt, faultOf, explained, plain, byRead, explanation, explanationOfBytes, packBehind, explanationOf, explanationOfFiles}
 use Rattle.explain.specs.Truth.{operandsIn, FoundThere, Explains, ExplainsBytes, ExplainsPack, ExplainsInput, ExplainsFiles}
-use Rattle.explain.specs.declared.Asked.{Asked}
-use Rattle.explain.specs.declared.Asked.the-variants.{Nothing, At}
+use Rattle.explain.specs.declared.instruction.Asked.{Asked}
+use Rattle.explain.specs.declared.instruction.Asked.the-variants.{Nothing, At}
 use Rattle.explain.specs.Code.{askedBy, faultAsked}
-use Rattle.explain.proofs.OfAsked.{GrantedAt, AskedAt, names-asked}
+use Rattle.explain.proofs.OfAsked.{GrantedAt, names-asked}
 
 -- ---- by a card's figures and a pack's words
 
@@ -65,6 +64,8 @@ module _ (card : Card) (w : List ℕ) where
       record {
         opener = q;
         place-is = a .place-is;
+        in-section = a .in-section;
+        in-clause = a .in-clause;
         found = f .found;
         limit = f .limit;
         fault-is =

@@ -1,5 +1,5 @@
 -- The instruction that a verdict names, read again: a place beyond what 64 bits count lies beyond every pack. Assumes nothing.
-use mathlib.Core.Path.{_≡_, refl, sym, ap, _∙_}
+use mathlib.Core.Path.{_≡_, sym, ap, _∙_}
 use mathlib.Core.Bool.{Bool}
 use mathlib.Core.List.{List}
 use Prim.Native.Nat.{ℕ, _+_, _*_}
@@ -8,10 +8,9 @@ use lib.ListN.{getD}
 use Rattle.units.specs.declared.Quadwords.{Quadwords}
 use Rattle.units.specs.declared.Slots.{Slots}
 use Rattle.units.specs.declared.Words.{Words}
-use Rattle.units.specs.Units.{quadwords, lowWord, highWord, lowAt, highAt, slotQuadword}
+use Rattle.units.specs.Units.{lowWord, highWord, lowAt, highAt, slotQuadword}
 use Rattle.units.specs.Code.{capped, quadwordsIn64, wordsIn64}
 use Rattle.checks.specs.declared.AtFault.{AtFault}
-use Rattle.checks.specs.declared.AtFault.the-variants.{NoNumber}
 use Rattle.card.specs.declared.Card.{Card}
 use Rattle.formats.specs.Fields.{_of_, «FETCH_INST»}
 use Rattle.instructions.specs.Instruction.{named}
@@ -23,11 +22,10 @@ use Rattle.section.specs.declared.Clause.{Clause}
 use Rattle.section.specs.declared.Clause.the-variants.{NoClause, AluClause, FetchClause}
 use Rattle.section.specs.Control.{controlOf, controlAt}
 use Rattle.section.specs.Rules.{clauseOf, clauseAt}
-use Rattle.explain.specs.declared.Asked.{Asked}
-use Rattle.explain.specs.declared.Asked.the-variants.{At}
+use Rattle.explain.specs.declared.instruction.Asked.the-variants.{At}
 use Rattle.judge.specs.Judge.{limitsWith, limitsIn}
 use Rattle.explain.specs.Explain.{namedIn, faultAt}
-use Rattle.explain.specs.Code.{faultAsked, quadwordIn, faultBy}
+use Rattle.explain.specs.Code.{faultAsked, startOf, faultBy}
 
 -- word n, by its number cut to 64 bits
 abbrev ReadAt : List ℕ → Words → ℕ → Type 0
@@ -57,7 +55,7 @@ module _ (w : List ℕ) where
 
   pub asked-fault :
       (card : Card) (opener : Quadwords) (slot : Slots) {lo hi first second : ℕ} {k : Clause} {at : Quadwords} {i j : Words} {f : AtFault}
-      → lo ≡ lowAt w (opener .0) → hi ≡ highAt w (opener .0) → k ≡ clauseOf (controlOf hi) lo hi → at ≡ quadwordsIn64 (quadwordIn k slot)
+      → lo ≡ lowAt w (opener .0) → hi ≡ highAt w (opener .0) → k ≡ clauseOf (controlOf hi) lo hi → at ≡ quadwordsIn64 (slotQuadword (startOf k) slot)
       → i ≡ wordsIn64 (lowWord at) → ReadAt w i first → j ≡ wordsIn64 (highWord at) → ReadAt w j second → f ≡ faultBy card k first second
       → f ≡ faultAsked card w (At opener slot)
   unfolding faultAt clauseAt controlAt firstFault
@@ -66,7 +64,7 @@ module _ (w : List ℕ) where
       ∙ ap (λ (j : Clause). firstFault (limitsIn card j) (namedIn w slot j)) (c ∙ (λ i. clauseOf (controlOf (b i)) (a i) (b i)))
     where
       by :
-          (j : Clause) → at .0 ≡ capped (quadwordIn j slot .0) → f ≡ faultBy card j first second
+          (j : Clause) → at .0 ≡ capped (startOf j .0 + slot .0) → f ≡ faultBy card j first second
           → f ≡ firstFault (limitsIn card j) (namedIn w slot j)
       by NoClause z x = x
       by (AluClause start n push mode0 mode1) z x =

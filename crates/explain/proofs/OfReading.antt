@@ -8,8 +8,6 @@ use borrow.Author.Tests.{ltb-true, ltb-false}
 use lib.Dec.{eqb, ltb}
 use lib.ListN.{length, take, drop}
 use lib.Seq.{take-all}
-use Rattle.checks.specs.declared.Explanation.{Explanation}
-use Rattle.checks.specs.declared.Verdict.{Verdict}
 use Rattle.card.specs.Card.{cardLines, cardOf}
 use Rattle.card.specs.Made.{testOf}
 use Rattle.card.specs.declared.Card.{Card}

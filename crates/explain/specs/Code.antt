@@ -3,8 +3,7 @@ use Prim.Native.Nat.{ℕ}
 use mathlib.Core.Bool.{cond}
 use mathlib.Core.List.{List}
 use Rattle.units.specs.declared.Quadwords.{Quadwords}
-use Rattle.units.specs.declared.Slots.{Slots}
-use Rattle.units.specs.Units.{quadwords, slotQuadword}
+use Rattle.units.specs.Units.{quadwords}
 use Rattle.formats.specs.Fields.{_of_, «FETCH_INST»}
 use Rattle.checks.specs.declared.AtFault.{AtFault}
 use Rattle.checks.specs.declared.AtFault.the-variants.{NoNumber}
@@ -18,8 +17,8 @@ use Rattle.faults.specs.Faults.{firstFault}
 use Rattle.section.specs.declared.Clause.{Clause}
 use Rattle.section.specs.declared.Clause.the-variants.{NoClause, AluClause, FetchClause}
 use Rattle.judge.specs.Judge.{limitsIn}
-use Rattle.explain.specs.declared.Asked.{Asked}
-use Rattle.explain.specs.declared.Asked.the-variants.{Nothing, At}
+use Rattle.explain.specs.declared.instruction.Asked.{Asked}
+use Rattle.explain.specs.declared.instruction.Asked.the-variants.{Nothing, At}
 use Rattle.explain.specs.Explain.{asksNames, faultAt}
 
 -- the instruction that a verdict is about
@@ -33,11 +32,11 @@ abbrev pub faultAsked : Card → List ℕ → Asked → AtFault
 faultAsked card w Nothing = NoNumber
 faultAsked card w (At opener slot) = faultAt card w (opener .0) slot
 
--- the quadword of a clause's slot
-abbrev pub quadwordIn : Clause → Slots → Quadwords
-quadwordIn NoClause slot = quadwords 0
-quadwordIn (AluClause start n push mode0 mode1) slot = slotQuadword start slot
-quadwordIn (FetchClause start n kind) slot = slotQuadword start slot
+-- where a clause starts
+abbrev pub startOf : Clause → Quadwords
+startOf NoClause = quadwords 0
+startOf (AluClause start n push mode0 mode1) = start
+startOf (FetchClause start n kind) = start
 
 -- the first fault of an instruction or a fetch of a clause, by its first two words
 abbrev pub faultBy : Card → Clause → ℕ → ℕ → AtFault

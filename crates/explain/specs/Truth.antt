@@ -1,12 +1,12 @@
 -- What an explanation claims: document 02, request 1. The place named breaks that rule, found stands in the words there, and nothing earlier is broken.
-use Prim.Native.Nat.{ℕ, suc}
+use Prim.Native.Nat.{ℕ, suc, _≤_, _<_}
 use mathlib.Core.Path.{_≡_}
 use mathlib.Core.Bool.{true, false}
 use mathlib.Core.List.{List, []}
 use lib.ListN.{length, drop}
 use Rattle.units.specs.declared.Quadwords.{Quadwords}
 use Rattle.units.specs.declared.Slots.{Slots}
-use Rattle.units.specs.Units.{lowAt, highAt, slotQuadword}
+use Rattle.units.specs.Units.{lowAt, highAt, wordsOf, slotsLength, fetchesLength, slotQuadword, rangeEnd}
 use Rattle.checks.specs.declared.AtFault.{AtFault}
 use Rattle.checks.specs.declared.AtFault.the-variants.{NoNumber, Number}
 use Rattle.checks.specs.declared.Explanation.{Explanation}
@@ -20,6 +20,7 @@ use Rattle.card.specs.Card.{cardLines, cardOf}
 use Rattle.faults.specs.Operands.{Operand, operandsOf, fetchOperands, FirstAtFault}
 use Rattle.section.specs.declared.Clause.{Clause}
 use Rattle.section.specs.declared.Clause.the-variants.{NoClause, AluClause, FetchClause}
+use Rattle.section.specs.Control.{endOf}
 use Rattle.section.specs.Rules.{clauseAt}
 use Rattle.judge.specs.Judge.{limitsIn, checks}
 use Rattle.input.specs.Words.{wordsIn}
@@ -32,14 +33,23 @@ operandsIn w s NoClause = []
 operandsIn w s (AluClause start n push mode0 mode1) = operandsOf (lowAt w (slotQuadword start s .0)) (highAt w (slotQuadword start s .0))
 operandsIn w s (FetchClause start n kind) = fetchOperands kind (lowAt w (slotQuadword start s .0)) (highAt w (slotQuadword start s .0))
 
+-- a slot is one of the clause's, and all of the clause lies in a buffer of m words
+abbrev pub HasSlot : ℕ → Slots → Clause → Type 0
+HasSlot m s NoClause = ⊥
+HasSlot m s (AluClause start n push mode0 mode1) = (s .0 < slotsLength n .0) × (wordsOf (rangeEnd start (slotsLength n)) .0 ≤ m)
+HasSlot m s (FetchClause start n kind) = (s .0 < fetchesLength n .0) × (wordsOf (rangeEnd start (fetchesLength n)) .0 ≤ m)
+
 -- found and limit of a refusal at a place and a slot
 pub record FoundThere (card : Card) (w : List ℕ) (place : Place) (slot : Slots) (fault : AtFault) : Type 0 where
   pub opener : Quadwords
   pub place-is : place ≡ Quadword opener
+  -- a pair of the control-flow section opens a clause with that slot
+  pub in-section : opener .0 ≤ endOf w
+  pub in-clause : HasSlot (length w) slot (clauseAt w (opener .0))
   pub found : ℕ
   pub limit : ℕ
   pub fault-is : fault ≡ Number found limit
-  -- of the operands of the instruction there, in the clause that the opener opens, found is the first at fault
+  -- of the operands of the instruction there found is the first at fault
   pub first : FirstAtFault (limitsIn card (clauseAt w (opener .0))) (operandsIn w slot (clauseAt w (opener .0))) found limit
 
 -- an explanation by a card and a pack's words

@@ -1,5 +1,4 @@
 // The instruction that a verdict names, found again by its opener's place and its slot, in a pack of words or of bytes.
-use crate::Asked;
 use card::Card;
 use checks::AtFault;
 use judge::limits_with;
@@ -10,11 +9,18 @@ use units::Words;
 ghost use mathlib.Core.Path.{_≡_};
 ghost use lib.ListN.{getD};
 ghost use Prim.Native.Nat.{ℕ};
+ghost use Rattle.units.specs.Units.{slotQuadword};
 ghost use Rattle.units.specs.Code.{capped, quadwordsIn64};
 ghost use Rattle.section.specs.Control.{controlOf};
 ghost use Rattle.section.specs.Rules.{clauseOf};
 ghost use Rattle.input.specs.Words.{wordsIn};
-ghost use Rattle.explain.specs.Code.{faultAsked, quadwordIn, faultBy};
+ghost use Rattle.explain.specs.Code.{faultAsked, startOf, faultBy};
+
+// The instruction that a verdict is about, if it is about what one names.
+pub enum Asked {
+    Nothing,
+    At { opener: Quadwords, slot: Slots },
+}
 
 pub(crate) fn fault_in_words(card: Card, words: &[u32], asked: Asked) -> AtFault
     ensures { λ r. ⌜ r ≡ faultAsked card (now (words .entry)) asked ⌝ }
@@ -66,8 +72,8 @@ fn clause_by(low: u32, high: u32) -> Clause
     section::clause_of(control, low, high)
 }
 
-fn quadword_in(clause: Clause, slot: Slots) -> Quadwords
-    ensures { λ r. ⌜ r ≡ quadwordsIn64 (quadwordIn clause slot) ⌝ }
+fn start_of(clause: Clause) -> Quadwords
+    ensures { λ r. ⌜ r ≡ startOf clause ⌝ }
 {
     match clause {
         Clause::NoClause => Quadwords(0),
@@ -77,13 +83,20 @@ fn quadword_in(clause: Clause, slot: Slots) -> Quadwords
             push_before: _,
             mode0: _,
             mode1: _,
-        } => units::slot_quadword(start, slot),
+        } => start,
         Clause::FetchClause {
             start,
             fetches: _,
             kind: _,
-        } => units::slot_quadword(start, slot),
+        } => start,
     }
+}
+
+fn quadword_in(clause: Clause, slot: Slots) -> Quadwords
+    ensures { λ r. ⌜ r ≡ quadwordsIn64 (slotQuadword (startOf clause) slot) ⌝ }
+{
+    let start = start_of(clause);
+    units::slot_quadword(start, slot)
 }
 
 // The first number at fault of an instruction of the clause, or of a fetch, by its first two words.

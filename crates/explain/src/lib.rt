@@ -7,7 +7,7 @@ use checks::AtFault;
 use checks::Explanation;
 use checks::Place;
 use checks::Verdict;
-use units::Quadwords;
+use instruction::Asked;
 use units::Slots;
 ghost use mathlib.Core.Path.{_≡_};
 ghost use Rattle.checks.specs.declared.Verdict.the-variants.{Refused};
@@ -22,12 +22,6 @@ mod lines;
 
 pub use lines::write_files_explanation;
 pub use lines::write_input_explanation;
-
-// The instruction that a verdict is about, if it is about what one names.
-pub enum Asked {
-    Nothing,
-    At { opener: Quadwords, slot: Slots },
-}
 
 // Explains the verdict on a pack by a card. What it names is true: the second promise says so without the code.
 pub fn explain(card: Card, words: &[u32]) -> Explanation

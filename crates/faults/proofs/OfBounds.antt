@@ -2,15 +2,15 @@
 use mathlib.Core.Path.{_≡_, refl}
 use mathlib.Core.Bool.{Bool, true, false, cond, _&&_}
 use mathlib.Core.List.{List, [], _∷_, _++_}
-use Prim.Native.Nat.{ℕ, _+_, _-_, _≤_, _<_}
+use Prim.Native.Nat.{ℕ, _+_, _≤_, _<_}
 use native.Mathlib.Omega.{arith}
 use lib.Dec.{eqb, ltb}
 use borrow.Author.Tests.{ltb-true, ltb-false}
-use Rattle.formats.specs.Fields.{_of_, «DST_REL», «DST_GPR», «FETCH_INST», «FETCH_DST_REL», «FETCH_DST_GPR», «FETCH_SRC_REL», «FETCH_SRC_GPR»}
+use Rattle.formats.specs.Fields.{_of_, «DST_REL», «FETCH_INST», «FETCH_DST_REL», «FETCH_SRC_REL»}
 use Rattle.checks.specs.declared.AtFault.{AtFault}
 use Rattle.checks.specs.declared.AtFault.the-variants.{NoNumber, Number}
 use Rattle.grants.specs.declared.Limits.{Limits}
-use Rattle.grants.specs.Grants.{Name, register, aluRegister, set0, set1, constant, locked, granted, sourceNames}
+use Rattle.grants.specs.Grants.{Name, register, aluRegister, set0, set1, constant, granted, sourceNames}
 use Rattle.grants.proofs.OfGrants.{locked-most}
 use Rattle.opcodes.specs.declared.cf.FetchKind.{FetchKind}
 use Rattle.instructions.specs.declared.Source.{Source}

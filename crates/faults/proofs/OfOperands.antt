@@ -1,24 +1,24 @@
 -- What the first name at fault says of the operands' fields. Assumes nothing.
 use mathlib.Core.Path.{_≡_, refl, sym, ap, subst, _∙_}
-use mathlib.Core.Bool.{Bool, true, false, cond, not, _&&_, _||_}
+use mathlib.Core.Bool.{Bool, true, false, cond, not, _&&_}
 use mathlib.Core.List.{List, [], _∷_, _++_, append-nil, List·Memᴰ, List·Memᴰ·not-nil, List·Memᴰ·cases-cons}
 use mathlib.Core.Logic.{⊎-elim}
-use Prim.Native.Nat.{ℕ, _+_, _-_, _≤_, _<_}
+use Prim.Native.Nat.{ℕ, _+_, _-_}
 use native.Mathlib.Omega.{arith}
 use lib.Dec.{eqb, ltb, leb}
-use borrow.Author.Tests.{lt-ltb, le-ltb, lt-leb, ltb-true, ltb-false, leb-false}
-use Rattle.laws.proofs.OfTests.{both, neither}
+use borrow.Author.Tests.{lt-ltb, le-ltb, lt-leb, ltb-false, leb-false}
+use Rattle.laws.proofs.OfTests.{neither}
 use Rattle.laws.proofs.OfCases.{impossible}
-use Rattle.formats.specs.Fields.{_of_, «DST_GPR», «DST_REL», «SRC0_SEL», «SRC1_SEL», «SRC2_SEL», «FETCH_INST», «FETCH_DST_GPR», «FETCH_DST_REL», «FETCH_SRC_GPR», «FETCH_SRC_REL»}
+use Rattle.formats.specs.Fields.{_of_, «DST_GPR», «DST_REL», «SRC2_SEL», «FETCH_INST», «FETCH_DST_GPR», «FETCH_DST_REL», «FETCH_SRC_GPR», «FETCH_SRC_REL»}
 use Rattle.opcodes.specs.declared.cf.FetchKind.{FetchKind}
 use Rattle.checks.specs.declared.AtFault.{AtFault}
-use Rattle.checks.specs.declared.AtFault.the-variants.{NoNumber, Number}
+use Rattle.checks.specs.declared.AtFault.the-variants.{Number}
 use Rattle.grants.specs.declared.Limits.{Limits}
 use Rattle.grants.specs.Grants.{Name, register, aluRegister, set0, set1, constant, locked, granted, allGranted, sourceNames}
 use Rattle.instructions.specs.declared.Source.{Source}
 use Rattle.instructions.specs.Instruction.{isOp3, isRelative, isWritten, source0Of, source1Of, source2Of, namesOf, destinationNames, named}
 use Rattle.fetches.specs.Fetches as fetches
-use Rattle.faults.specs.Faults.{numberOf, sameSort, grantedOfSort, limitOf, firstFault}
+use Rattle.faults.specs.Faults.{numberOf, limitOf, firstFault}
 use Rattle.faults.specs.Operands.{Operand, operand, operandsOf, fetchOperands, FirstOfSort, FirstAtFault}
 
 -- ---- the limit is the first of its sort that is not granted

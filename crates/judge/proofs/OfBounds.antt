@@ -94,7 +94,8 @@ module _ (place : Quadwords) (near : place .0 < 2 ^ 16) where
   unfolding fetches.clauseChecks fetches.fetchChecks
   in-fetches kind limits w s n few =
       each-if (liesIn _ s (fetchesLength n))
-      (each-below (fetches.fetchChecks kind limits w place s) (n .0)
+      (λ t.
+      each-below (fetches.fetchChecks kind limits w place s) (n .0)
       (λ i l. at 8 _ (omega arith, omega arith) (omega arith) (at 9 _ (omega arith, omega arith) (omega arith) empty)))
 
   -- a rule asked of each instruction of a group
@@ -139,7 +140,7 @@ module _ (place : Quadwords) (near : place .0 < 2 ^ 16) where
   unfolding alu.clauseChecks alu.groupsOf
   in-alu kind push limits w s n few =
       each-if (liesIn _ s (slotsLength n))
-      (each-joined (in-groups _ limits w s n few (n .0) (slots 0)) (of-pair 14 (omega arith, omega arith) empty))
+      (λ t. each-joined (in-groups _ limits w s n few (n .0) (slots 0)) (of-pair 14 (omega arith, omega arith) empty))
 
   -- 8 to 15
   in-clause : (card : Card) (w : List ℕ) (k : Clause) → Few k → AllNarrow (clauseChecks card w place k)

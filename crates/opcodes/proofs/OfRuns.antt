@@ -9,13 +9,9 @@ use native.Mathlib.Omega.{arith}
 use lib.Dec.{ltb}
 use lib.ListN.{getD, drop, replicate}
 use borrow.Author.Tests.{ne-eqb, ltb-true}
+use Rattle.laws.proofs.OfLists.{upFrom}
 use Rattle.laws.proofs.OfTests.{both}
 use Rattle.opcodes.specs.Table.{Row, lookup}
-
--- lo, lo + 1, ..: n of them
-abbrev pub upFrom : ℕ → ℕ → List ℕ
-upFrom lo zero = []
-upFrom lo (suc n) = lo ∷ upFrom (suc lo) n
 
 in-run : {A : Type 0} (f : ℕ → A) (lo n : ℕ) (a : A) → map f (upFrom lo n) ≡ replicate n a → (k : ℕ) → lo ≤ k → k < lo + n → f k ≡ a
 in-run f lo zero a e k h j = absurd (omega arith)

@@ -1,15 +1,16 @@
 -- The rules' words all differ; an explanation's bytes are its lines, and at most 156 of them. Assumes nothing.
 use mathlib.Core.Path.{_≡_, refl, sym, ap, subst, _∙_}
-use mathlib.Core.Bool.{Bool, true, false, not, _&&_}
+use mathlib.Core.Bool.{Bool, true, not, _&&_, true≢false}
 use mathlib.Core.List.{List, [], _∷_, _++_, map}
-use Prim.Native.Nat.{ℕ, zero, suc, _+_, _^_, _≤_, _<_}
+use Prim.Native.Nat.{ℕ, zero, suc, _+_, _*_, _^_, _≤_, _<_}
+use Prim.Native.String.{String}
 use native.Mathlib.Nat.{zero-add}
 use native.Mathlib.Omega.{arith}
 use borrow.Author.Tests.{eq-eqb, ltb-true, ltb-false, not-true}
 use lib.Dec.{eqb, ltb}
 use lib.ListN.{length, getD, length-append}
+use Rattle.laws.proofs.OfLists.{upFrom, at-number}
 use Rattle.laws.proofs.OfTests.{both, by-test}
-use Rattle.laws.proofs.OfCases.{impossible}
 use Rattle.ascii.specs.Ascii.{ascii}
 use Rattle.ascii.specs.Decimal.{decimal}
 use Rattle.ascii.specs.Code.{feedless}
@@ -24,37 +25,31 @@ use Rattle.report.specs.Report.{line, joined, linesOf}
 use Rattle.report.specs.Explanation.{ruleWord, foundText, limitText, linesFor, explanationLines, explanationBytes}
 use Rattle.report.specs.Code.{ruleLine}
 use Rattle.report.proofs.OfReport.{line-first, number-line-length}
-use Rattle.report.proofs.OfRules.{upFrom, at-number, rule-line-length, feedless-word}
+use Rattle.report.proofs.OfRules.{rule-line-length, feedless-word}
 
 -- ---- the words
 
-abbrev same : List ℕ → List ℕ → Bool
-same [] [] = true
-same [] (y ∷ ys) = false
-same (x ∷ xs) [] = false
-same (x ∷ xs) (y ∷ ys) = eqb x y && same xs ys
+-- bytes as one number, so that one test of numbers tells two texts apart
+abbrev coded : List ℕ → ℕ
+coded [] = 0
+coded (b ∷ bs) = suc b + 256 * coded bs
 
-same-itself : (xs : List ℕ) → same xs xs ≡ true
-same-itself [] = refl
-same-itself (x ∷ xs) = rw (eq-eqb x x refl) (same-itself xs)
-
-abbrev noneOf : List (List ℕ) → List ℕ → Bool
+abbrev noneOf : List ℕ → ℕ → Bool
 noneOf [] x = true
-noneOf (y ∷ ys) x = not (same x y) && noneOf ys x
+noneOf (y ∷ ys) x = not (eqb x y) && noneOf ys x
 
-abbrev allDifferent : List (List ℕ) → Bool
+abbrev allDifferent : List ℕ → Bool
 allDifferent [] = true
 allDifferent (x ∷ xs) = noneOf xs x && allDifferent xs
 
-none-at : (xs : List (List ℕ)) (x : List ℕ) → noneOf xs x ≡ true → (i : ℕ) → i < length xs → x ≡ getD xs i [] → ⊥
+none-at : (xs : List ℕ) (x : ℕ) → noneOf xs x ≡ true → (i : ℕ) → i < length xs → x ≡ getD xs i 0 → ⊥
 none-at [] x e i h q = omega arith
 none-at (y ∷ ys) x e zero h q =
-    let b = both (not (same x y)) (noneOf ys x) e in
-    let s : same x y ≡ true = ap (same x) (sym q) ∙ same-itself x in
-    impossible (cc (not-true (same x y) (b .0)))
-none-at (y ∷ ys) x e (suc i) h q = none-at ys x (both (not (same x y)) (noneOf ys x) e .1) i (omega arith) q
+    let b = both (not (eqb x y)) (noneOf ys x) e in
+    true≢false (sym (eq-eqb x y q) ∙ not-true (eqb x y) (b .0))
+none-at (y ∷ ys) x e (suc i) h q = none-at ys x (both (not (eqb x y)) (noneOf ys x) e .1) i (omega arith) q
 
-differ-at : (xs : List (List ℕ)) → allDifferent xs ≡ true → (i j : ℕ) → i < j → j < length xs → getD xs i [] ≡ getD xs j [] → ⊥
+differ-at : (xs : List ℕ) → allDifferent xs ≡ true → (i j : ℕ) → i < j → j < length xs → getD xs i 0 ≡ getD xs j 0 → ⊥
 differ-at [] e i j h k q = omega arith
 differ-at (x ∷ xs) e zero zero h k q = omega arith
 differ-at (x ∷ xs) e zero (suc j) h k q = none-at xs x (both (noneOf xs x) (allDifferent xs) e .0) j (omega arith) q
@@ -62,27 +57,24 @@ differ-at (x ∷ xs) e (suc i) zero h k q = omega arith
 differ-at (x ∷ xs) e (suc i) (suc j) h k q = differ-at xs (both (noneOf xs x) (allDifferent xs) e .1) i j (omega arith) (omega arith) q
 
 -- the words of 1 to 19, and before them unknown: no two are the same
-unfoldable pub words : List (List ℕ)
-words = map (λ (n : ℕ). ascii (ruleWord n)) (upFrom 0 20)
+unfoldable pub words : List ℕ
+words = map (λ (n : ℕ). coded (ascii (ruleWord n))) (upFrom 0 20)
 
 pub words-differ : allDifferent words ≡ true
 unfolding words ruleWord
 words-differ = refl
 
-word-at : (n : ℕ) → n < 20 → getD words n [] ≡ ascii (ruleWord n)
+word-at : (n : ℕ) → n < 20 → getD words n 0 ≡ coded (ascii (ruleWord n))
 unfolding words
-word-at n h = at-number (λ (k : ℕ). ascii (ruleWord k)) [] 0 20 n h ∙ ap (λ (k : ℕ). ascii (ruleWord k)) (zero-add n)
+word-at n h = at-number (λ (k : ℕ). coded (ascii (ruleWord k))) 0 0 20 n h ∙ ap (λ (k : ℕ). coded (ascii (ruleWord k))) (zero-add n)
 
 -- a word has one number
 pub number-of-word : (a b : ℕ) → a < 20 → b < 20 → ruleWord a ≡ ruleWord b → a ≡ b
 unfolding words
 number-of-word a b h k e =
-    by-test (ltb a b)
-    (λ l. absurd (differ-at words words-differ a b (ltb-true a b l) k (word-at a h ∙ ap ascii e ∙ sym (word-at b k))))
-    (λ l.
-    by-test (ltb b a)
-    (λ m. absurd (differ-at words words-differ b a (ltb-true b a m) h (word-at b k ∙ ap ascii (sym e) ∙ sym (word-at a h))))
-    (λ m. omega (arith, ltb-false a b l, ltb-false b a m)))
+    let same : getD words a 0 ≡ getD words b 0 = word-at a h ∙ ap (λ (w : String). coded (ascii w)) e ∙ sym (word-at b k) in
+    by-test (ltb a b) (λ l. absurd (differ-at words words-differ a b (ltb-true a b l) k same))
+    (λ l. by-test (ltb b a) (λ m. absurd (differ-at words words-differ b a (ltb-true b a m) h (sym same))) (λ m. omega (arith, ltb-false a b l, ltb-false b a m)))
 
 -- ---- the bytes are those lines and no others
 

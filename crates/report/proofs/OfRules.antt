@@ -3,15 +3,16 @@
 use mathlib.Core.Path.{_≡_, refl, sym, ap, _∙_}
 use mathlib.Core.Bool.{Bool, true, _&&_}
 use mathlib.Core.List.{List, [], _∷_, _++_, map}
-use Prim.Native.Nat.{ℕ, zero, suc, _+_, _-_, _≤_, _<_}
+use Prim.Native.Nat.{ℕ, _+_, _-_, _≤_, _<_}
 use Prim.Native.Char.{code}
 use Prim.Native.String.{String}
-use native.Mathlib.Nat.{add-zero, zero-add}
+use native.Mathlib.Nat.{zero-add}
 use native.Mathlib.Omega.{arith}
 use borrow.Author.Tests.{ne-eqb, leb-true, ltb-true}
 use lib.Dec.{eqb, leb, ltb}
 use lib.ListN.{length, getD, take, replicate, length-take}
 use lib.Seq.{take-append-seam}
+use Rattle.laws.proofs.OfLists.{upFrom, at-number}
 use Rattle.laws.proofs.OfTests.{both, by-test}
 use Rattle.ascii.specs.Ascii.{ascii}
 use Rattle.ascii.specs.Code.{feedless}
@@ -21,16 +22,6 @@ use Rattle.report.specs.Explanation.{ruleWords, wordIn, ruleWord}
 use Rattle.report.proofs.OfBuffer.{as-bytes}
 
 -- ---- a number and its row
-
--- lo, lo + 1, ..: n of them
-abbrev pub upFrom : ℕ → ℕ → List ℕ
-upFrom lo zero = []
-upFrom lo (suc n) = lo ∷ upFrom (suc lo) n
-
-pub at-number : {A : Type 0} (f : ℕ → A) (other : A) (lo m n : ℕ) → n < m → getD (map f (upFrom lo m)) n other ≡ f (lo + n)
-at-number f other lo zero n h = absurd (omega arith)
-at-number f other lo (suc m) zero h = ap f (sym (add-zero lo))
-at-number f other lo (suc m) (suc n) h = at-number f other (suc lo) m n (omega arith) ∙ ap f (omega arith)
 
 -- a line filled up with spaces
 abbrev filled : List ℕ → List ℕ
