@@ -2,3 +2,4 @@
 pub mod OfFaults
 pub mod OfOperands
 pub mod OfBounds
+pub mod Examples
