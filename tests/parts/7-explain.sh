@@ -56,6 +56,13 @@ holds "the definition has words for 1 to 19" [ "$(cut -d ' ' -f 1 "$work/words" 
 holds "the examples have the rules' words" cmp -s "$work/words" "$work/words_shown"
 holds "docs/USING.md has the rules' words" cmp -s "$work/words" "$work/words_told"
 
+# The packs that docs/USING.md goes through, the first as a session.
+sed -n '/\$ .\/explain /,/\$ echo/s/^    \([a-z]*=.*\)/\1/p' docs/USING.md >"$work/session"
+holds "docs/USING.md: the session" cmp -s "$work/session" $refused.explain
+for name in fetch-into-a-register-not-granted jump-keeps-its-frame; do
+    holds "docs/USING.md: $name" grep -qF "\`$name\`: $(paste -sd , "examples/$name.explain" | sed 's/,/, /g')." docs/USING.md
+done
+
 run ./explain $refused.card $refused.pack
 holds "explain: the card's checksum is told" grep -q "^card $(sha256sum <$refused.card | cut -d ' ' -f 1) $refused.card$" "$work/err"
 holds "explain: the pack's checksum is told" grep -q "^pack $(sha256sum <$refused.pack | cut -d ' ' -f 1) $refused.pack$" "$work/err"
