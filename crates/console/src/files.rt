@@ -95,10 +95,13 @@ fn read_all(file: i32, room: &mut [u8]) -> FileRead
 
 // Writes a line to standard error: what failed, and the system's reason.
 pub(crate) fn tell(tool: Tool, what: &[u8]) {
+    begin_message(tool);
+    os::fail(what);
+}
+
+fn begin_message(tool: Tool) -> bool {
     match tool {
         Tool::Judge => io::write_all(STDERR_FILENO, b"judge: "),
         Tool::Explain => io::write_all(STDERR_FILENO, b"explain: "),
     }
-    ;
-    os::fail(what);
 }
