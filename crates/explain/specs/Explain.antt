@@ -58,7 +58,7 @@ faultOf card w (Refused rule (Quadword q) slot) = cond (asksNames rule) (faultAt
 abbrev pub explained : Card → List ℕ → Verdict → Explanation
 explained card w verdict = record { verdict = verdict; fault = faultOf card w verdict }
 
--- a verdict by no card, which is 1
+-- a verdict that has no numbers: 1 by no card, or 2 by a pack's bytes
 abbrev pub plain : Verdict → Explanation
 plain verdict = record { verdict = verdict; fault = NoNumber }
 
