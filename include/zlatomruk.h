@@ -76,7 +76,7 @@ static inline uint32_t zlatomruk_place(uint64_t answer) { return (uint32_t)(answ
 static inline uint32_t zlatomruk_slot(uint64_t answer) { return (uint32_t)(answer >> 32 & 0xFFFF); }
 static inline int zlatomruk_released(uint64_t answer) { return (int)(answer >> 48 & 1); }
 
-/* ---- The codec: a pair of words as 32-bit values, and back.
+/* ---- The codec: a pair of words, or a fetch's four, as 32-bit values, and back.
  *
  * Element 0 is the form. Behind it stand the fields of the low word, then those of the high word, each from the lowest bit up, by AMD's
  * names. COUNT of a CF pair, which has two pieces in the word, is one value; bit 20 and bits 16:12 are carried.
@@ -104,13 +104,54 @@ static inline int zlatomruk_released(uint64_t answer) { return (int)(answer >> 4
  *  20                                                          DST_GPR               DST_CHAN
  *  21                                                          DST_REL               CLAMP
  *  22                                                          DST_CHAN
- *  23                                                          CLAMP */
-enum zlatomruk_form { ZLATOMRUK_CF_ALU, ZLATOMRUK_CF, ZLATOMRUK_EXPORT, ZLATOMRUK_OP2, ZLATOMRUK_OP3 };
+ *  23                                                          CLAMP
+ *
+ * A fetch has the fields of its words 0, 1 and 2, one word behind the other; word 3 is 0 and no value. RESERVEDw_b are the bits of word w from bit b
+ * up that AMD reserves: they are carried, and so is every number that AMD reserves in a field. Signed fields (LOD_BIAS, OFFSET_X to _Z) are the
+ * numbers that their bits make, from 0 up.
+ *
+ *  0  5 texture          6 vertex, register    7 vertex, semantic
+ *  1  TEX_INST           VTX_INST              VTX_INST
+ *  2  BC_FRAC_MODE       FETCH_TYPE            FETCH_TYPE
+ *  3  RESERVED0_6        FETCH_WHOLE_QUAD      FETCH_WHOLE_QUAD
+ *  4  FETCH_WHOLE_QUAD   BUFFER_ID             BUFFER_ID
+ *  5  RESOURCE_ID        SRC_GPR               SRC_GPR
+ *  6  SRC_GPR            SRC_REL               SRC_REL
+ *  7  SRC_REL            SRC_SEL_X             SRC_SEL_X
+ *  8  ALT_CONST          MEGA_FETCH_COUNT      MEGA_FETCH_COUNT
+ *  9  RESERVED0_25       DST_GPR               SEMANTIC_ID
+ *  10 DST_GPR            DST_REL               RESERVED1_8
+ *  11 DST_REL            RESERVED1_8           DST_SEL_X
+ *  12 RESERVED1_8        DST_SEL_X             DST_SEL_Y
+ *  13 DST_SEL_X          DST_SEL_Y             DST_SEL_Z
+ *  14 DST_SEL_Y          DST_SEL_Z             DST_SEL_W
+ *  15 DST_SEL_Z          DST_SEL_W             USE_CONST_FIELDS
+ *  16 DST_SEL_W          USE_CONST_FIELDS      DATA_FORMAT
+ *  17 LOD_BIAS           DATA_FORMAT           NUM_FORMAT_ALL
+ *  18 COORD_TYPE_X       NUM_FORMAT_ALL        FORMAT_COMP_ALL
+ *  19 COORD_TYPE_Y       FORMAT_COMP_ALL       SRF_MODE_ALL
+ *  20 COORD_TYPE_Z       SRF_MODE_ALL          OFFSET
+ *  21 COORD_TYPE_W       OFFSET                ENDIAN_SWAP
+ *  22 OFFSET_X           ENDIAN_SWAP           CONST_BUF_NO_STRIDE
+ *  23 OFFSET_Y           CONST_BUF_NO_STRIDE   MEGA_FETCH
+ *  24 OFFSET_Z           MEGA_FETCH            ALT_CONST
+ *  25 SAMPLER_ID         ALT_CONST             RESERVED2_21
+ *  26 SRC_SEL_X          RESERVED2_21
+ *  27 SRC_SEL_Y
+ *  28 SRC_SEL_Z
+ *  29 SRC_SEL_W */
+enum zlatomruk_form {
+    ZLATOMRUK_CF_ALU, ZLATOMRUK_CF, ZLATOMRUK_EXPORT, ZLATOMRUK_OP2, ZLATOMRUK_OP3, /* for zlatomruk_encode */
+    ZLATOMRUK_TEX = 5, ZLATOMRUK_VTX_GPR = 6, ZLATOMRUK_VTX_SEM = 7 /* for zlatomruk_encode_fetch */
+};
 
 /* The two kinds of pairs. */
 enum zlatomruk_stream { ZLATOMRUK_CONTROL_FLOW, ZLATOMRUK_ALU };
 
-/* The elements that a row has to have, whatever its form: the longest form takes 24 of them. */
+/* The three kinds of fetches, by the CF_INST of the pair that opens their clause. VTX and VTX_TC have the same forms, 6 and 7. */
+enum zlatomruk_fetch_kind { ZLATOMRUK_FETCH_TEX = 1, ZLATOMRUK_FETCH_VTX = 2, ZLATOMRUK_FETCH_VTX_TC = 3 };
+
+/* The elements that a row has to have, whatever its form: the longest form takes 30 of them. */
 enum { ZLATOMRUK_VALUES = 32 };
 
 enum zlatomruk_cf_alu_value {
@@ -152,6 +193,39 @@ enum zlatomruk_op3_value {
     ZLATOMRUK_OP3_CLAMP
 };
 
+enum zlatomruk_tex_value {
+    ZLATOMRUK_TEX_TEX_INST = 1, ZLATOMRUK_TEX_BC_FRAC_MODE, ZLATOMRUK_TEX_RESERVED0_6, ZLATOMRUK_TEX_FETCH_WHOLE_QUAD,
+    ZLATOMRUK_TEX_RESOURCE_ID, ZLATOMRUK_TEX_SRC_GPR, ZLATOMRUK_TEX_SRC_REL, ZLATOMRUK_TEX_ALT_CONST, ZLATOMRUK_TEX_RESERVED0_25,
+    ZLATOMRUK_TEX_DST_GPR, ZLATOMRUK_TEX_DST_REL, ZLATOMRUK_TEX_RESERVED1_8, ZLATOMRUK_TEX_DST_SEL_X, ZLATOMRUK_TEX_DST_SEL_Y,
+    ZLATOMRUK_TEX_DST_SEL_Z, ZLATOMRUK_TEX_DST_SEL_W, ZLATOMRUK_TEX_LOD_BIAS, ZLATOMRUK_TEX_COORD_TYPE_X,
+    ZLATOMRUK_TEX_COORD_TYPE_Y, ZLATOMRUK_TEX_COORD_TYPE_Z, ZLATOMRUK_TEX_COORD_TYPE_W, ZLATOMRUK_TEX_OFFSET_X,
+    ZLATOMRUK_TEX_OFFSET_Y, ZLATOMRUK_TEX_OFFSET_Z, ZLATOMRUK_TEX_SAMPLER_ID, ZLATOMRUK_TEX_SRC_SEL_X, ZLATOMRUK_TEX_SRC_SEL_Y,
+    ZLATOMRUK_TEX_SRC_SEL_Z, ZLATOMRUK_TEX_SRC_SEL_W
+};
+
+/* Forms 6 and 7 share word 0. */
+enum zlatomruk_vtx_value {
+    ZLATOMRUK_VTX_VTX_INST = 1, ZLATOMRUK_VTX_FETCH_TYPE, ZLATOMRUK_VTX_FETCH_WHOLE_QUAD, ZLATOMRUK_VTX_BUFFER_ID,
+    ZLATOMRUK_VTX_SRC_GPR, ZLATOMRUK_VTX_SRC_REL, ZLATOMRUK_VTX_SRC_SEL_X, ZLATOMRUK_VTX_MEGA_FETCH_COUNT
+};
+
+enum zlatomruk_vtx_gpr_value {
+    ZLATOMRUK_VTX_GPR_DST_GPR = 9, ZLATOMRUK_VTX_GPR_DST_REL, ZLATOMRUK_VTX_GPR_RESERVED1_8, ZLATOMRUK_VTX_GPR_DST_SEL_X,
+    ZLATOMRUK_VTX_GPR_DST_SEL_Y, ZLATOMRUK_VTX_GPR_DST_SEL_Z, ZLATOMRUK_VTX_GPR_DST_SEL_W, ZLATOMRUK_VTX_GPR_USE_CONST_FIELDS,
+    ZLATOMRUK_VTX_GPR_DATA_FORMAT, ZLATOMRUK_VTX_GPR_NUM_FORMAT_ALL, ZLATOMRUK_VTX_GPR_FORMAT_COMP_ALL,
+    ZLATOMRUK_VTX_GPR_SRF_MODE_ALL, ZLATOMRUK_VTX_GPR_OFFSET, ZLATOMRUK_VTX_GPR_ENDIAN_SWAP,
+    ZLATOMRUK_VTX_GPR_CONST_BUF_NO_STRIDE, ZLATOMRUK_VTX_GPR_MEGA_FETCH, ZLATOMRUK_VTX_GPR_ALT_CONST,
+    ZLATOMRUK_VTX_GPR_RESERVED2_21
+};
+
+enum zlatomruk_vtx_sem_value {
+    ZLATOMRUK_VTX_SEM_SEMANTIC_ID = 9, ZLATOMRUK_VTX_SEM_RESERVED1_8, ZLATOMRUK_VTX_SEM_DST_SEL_X, ZLATOMRUK_VTX_SEM_DST_SEL_Y,
+    ZLATOMRUK_VTX_SEM_DST_SEL_Z, ZLATOMRUK_VTX_SEM_DST_SEL_W, ZLATOMRUK_VTX_SEM_USE_CONST_FIELDS, ZLATOMRUK_VTX_SEM_DATA_FORMAT,
+    ZLATOMRUK_VTX_SEM_NUM_FORMAT_ALL, ZLATOMRUK_VTX_SEM_FORMAT_COMP_ALL, ZLATOMRUK_VTX_SEM_SRF_MODE_ALL, ZLATOMRUK_VTX_SEM_OFFSET,
+    ZLATOMRUK_VTX_SEM_ENDIAN_SWAP, ZLATOMRUK_VTX_SEM_CONST_BUF_NO_STRIDE, ZLATOMRUK_VTX_SEM_MEGA_FETCH,
+    ZLATOMRUK_VTX_SEM_ALT_CONST, ZLATOMRUK_VTX_SEM_RESERVED2_21
+};
+
 /* Decodes the pair at word `start` of `words` (any number) as one of that stream. 0, and the form's values are written; the elements behind them
  * stay as they were. Else nothing is written: 21 where `stream` is above 1, whatever the rest; 2 where the pair does not lie in the words, 4 or 11
  * where its control-flow or ALU number is not taken, 20 where it is and `values` has fewer than 32 elements. */
@@ -162,6 +236,19 @@ uint32_t zlatomruk_decode(const uint32_t *words, size_t words_length, size_t sta
  * `values` has fewer than 32 elements, the form is above 4, a value has more bits than its field, or the form has no such number; 20 where
  * two words do not fit. What stands behind the form's last value is not looked at. */
 uint32_t zlatomruk_encode(const uint32_t *values, size_t values_length, uint32_t *words, size_t words_length, size_t start);
+
+/* Decodes the four words at word `start` of `words` (any number) as a fetch of that kind. 0, and the form's values are written; the elements
+ * behind them stay as they were. Else nothing is written: 21 where `kind` is not 1, 2 or 3, whatever the rest; 2 where the four words do not lie
+ * wholly in the words; 8 where that kind does not take the number or word 3 is not 0; 20 where it is a fetch and `values` has fewer than 32
+ * elements. */
+uint32_t zlatomruk_decode_fetch(const uint32_t *words, size_t words_length, size_t start, uint32_t kind, uint32_t *values,
+                                size_t values_length);
+
+/* Encodes the fetch that `values` holds into four words, the last of them 0, at word `start` of `words` (any number): 0. Else nothing is
+ * written: 21 where `values` has fewer than 32 elements, the form is not 5, 6 or 7, a value has more bits than its field, or the form has no
+ * such number (VTX_INST is 0 in form 6 and 1 in form 7); 20 where four words do not fit. What stands behind the form's last value is not looked
+ * at. */
+uint32_t zlatomruk_encode_fetch(const uint32_t *values, size_t values_length, uint32_t *words, size_t words_length, size_t start);
 
 #ifdef __cplusplus
 }

@@ -1,5 +1,6 @@
 /* Holds the header against the archive and against the table of fields: every index by the bits that change with its value, numbers, forms,
- * streams, lengths and the layout of an answer. fields.h has a row for each index, made by header_fields.sh. Exits 0 if all agree. */
+ * streams, kinds of fetches, lengths and the layout of an answer. fields.h has a row for each index, made by header_fields.sh. Exits 0 if all
+ * agree. */
 #include <pthread.h>
 #include <stdio.h>
 #include <string.h>
@@ -25,50 +26,103 @@ static const struct field fields[] = {
 #include "fields.h"
 };
 
-enum { FIELDS = sizeof fields / sizeof fields[0], FORMS = 5 };
+enum { FIELDS = sizeof fields / sizeof fields[0], FORMS = 8 };
 
-/* Of each form the index of its number, two numbers that it takes, and how many values it has. */
-static const struct { int index; uint32_t one, other; int values; } numbers[FORMS] = {
-    {ZLATOMRUK_CF_ALU_CF_INST, 8, 9, 12}, {ZLATOMRUK_CF_CF_INST, 0, 14, 12}, {ZLATOMRUK_EXPORT_CF_INST, 39, 40, 17},
-    {ZLATOMRUK_OP2_ALU_INST, 25, 0, 23}, {ZLATOMRUK_OP3_ALU_INST, 16, 24, 21},
+/* Of each form the index of its number, two numbers that it takes (or one, twice), how many values it has and in how many words, and the stream
+ * or kind to decode it by. */
+static const struct { int index; uint32_t one, other; int values, words; uint32_t stream; } numbers[FORMS] = {
+    {ZLATOMRUK_CF_ALU_CF_INST, 8, 9, 12, 2, ZLATOMRUK_CONTROL_FLOW}, {ZLATOMRUK_CF_CF_INST, 0, 14, 12, 2, ZLATOMRUK_CONTROL_FLOW},
+    {ZLATOMRUK_EXPORT_CF_INST, 39, 40, 17, 2, ZLATOMRUK_CONTROL_FLOW}, {ZLATOMRUK_OP2_ALU_INST, 25, 0, 23, 2, ZLATOMRUK_ALU},
+    {ZLATOMRUK_OP3_ALU_INST, 16, 24, 21, 2, ZLATOMRUK_ALU}, {ZLATOMRUK_TEX_TEX_INST, 16, 31, 29, 3, ZLATOMRUK_FETCH_TEX},
+    {ZLATOMRUK_VTX_VTX_INST, 0, 0, 26, 3, ZLATOMRUK_FETCH_VTX}, {ZLATOMRUK_VTX_VTX_INST, 1, 1, 25, 3, ZLATOMRUK_FETCH_VTX_TC},
 };
 
-/* The 64 bits of an instruction of this form, all of its fields 0 but the number and this one. */
-static uint64_t encoded(uint32_t form, int index, uint32_t value) {
-    uint32_t values[ZLATOMRUK_VALUES] = {0}, words[2] = {0, 0};
+static int is_fetch(uint32_t form) { return form >= ZLATOMRUK_TEX; }
+
+/* An instruction's words, those of a pair with 0 behind them. */
+struct words { uint32_t at[4]; };
+
+/* The words of an instruction of this form, all of its fields 0 but the number and this one; decoded again, they are the same values. */
+static struct words encoded(uint32_t form, int index, uint32_t value) {
+    uint32_t values[ZLATOMRUK_VALUES] = {0}, back[ZLATOMRUK_VALUES] = {0}, stream = numbers[form].stream;
+    struct words w = {{0, 0, 0, 0}};
+    uint32_t encoding, decoding;
     values[0] = form;
     values[numbers[form].index] = numbers[form].one;
     values[index] = value;
-    expect(zlatomruk_encode(values, ZLATOMRUK_VALUES, words, 2, 0) == ZLATOMRUK_VERDICT_ACCEPTED, "an instruction is encoded");
-    return words[0] | (uint64_t)words[1] << 32;
+    if (is_fetch(form)) {
+        w.at[3] = 1;
+        encoding = zlatomruk_encode_fetch(values, ZLATOMRUK_VALUES, w.at, 4, 0);
+        decoding = zlatomruk_decode_fetch(w.at, 4, 0, stream, back, ZLATOMRUK_VALUES);
+    } else {
+        encoding = zlatomruk_encode(values, ZLATOMRUK_VALUES, w.at, 4, 0);
+        decoding = zlatomruk_decode(w.at, 4, 0, stream, back, ZLATOMRUK_VALUES);
+    }
+    expect(encoding == ZLATOMRUK_VERDICT_ACCEPTED, "an instruction is encoded");
+    expect(decoding == ZLATOMRUK_VERDICT_ACCEPTED && memcmp(values, back, sizeof back) == 0, "it is decoded again");
+    return w;
 }
 
-/* The bits of the pair that a field takes, by what changes with it; COUNT of CF has its top bit apart. */
-static uint64_t check_field(const struct field *f) {
-    int width = f->highest - f->lowest + 1;
+static struct words difference(struct words one, struct words other) {
+    int i;
+    for (i = 0; i < 4; i++) one.at[i] ^= other.at[i];
+    return one;
+}
+
+/* Which word of an instruction is these bits, where all others are 0; -1 if none is. */
+static int word_of(struct words w, uint32_t bits) {
+    int i, found = -1, others = 0;
+    for (i = 0; i < 4; i++) {
+        if (w.at[i] == bits && found < 0) found = i;
+        else others |= w.at[i] != 0;
+    }
+    return others ? -1 : found;
+}
+
+/* A number by what changes from one that the form takes to another, and by that it stands alone where all else is 0: in word 0 of a fetch, in the
+ * high word of a pair. */
+static int check_number(const struct field *f) {
+    uint32_t one = numbers[f->form].one, other = numbers[f->form].other;
+    int word = is_fetch(f->form) ? 0 : 1;
+    struct words alone = encoded(f->form, f->index, one), changed = difference(alone, encoded(f->form, f->index, other));
+    expect(alone.at[word] == one << f->lowest, f->name);
+    expect(changed.at[word] == (one ^ other) << f->lowest, f->name);
+    return word;
+}
+
+/* The bits that a field takes, by what changes with it; COUNT of CF has its top bit apart. */
+static struct words check_field(const struct field *f) {
+    int width = f->highest - f->lowest + 1, word;
     int count = f->form == ZLATOMRUK_CF && f->index == ZLATOMRUK_CF_COUNT;
-    uint64_t mask = ((UINT64_C(1) << width) - 1) << f->lowest;
-    uint64_t most = (UINT64_C(1) << (width + count)) - 1;
-    uint64_t changed, wanted = count ? mask | 1 << 19 : mask;
+    struct words taken = {{0, 0, 0, 0}};
+    uint32_t mask;
     if (f->lowest > f->highest) {
         expect(0, f->name);
-        return 0;
+        return taken;
     }
+    mask = (uint32_t)(((UINT64_C(1) << width) - 1) << f->lowest) | (uint32_t)count << 19;
     if (f->index == numbers[f->form].index) {
-        uint32_t one = numbers[f->form].one, other = numbers[f->form].other;
-        changed = encoded(f->form, f->index, one) ^ encoded(f->form, f->index, other);
-        expect(changed == (uint64_t)(one ^ other) << f->lowest << 32, f->name);
-        return mask << 32;
+        word = check_number(f);
+    } else {
+        uint32_t most = (uint32_t)((UINT64_C(1) << (width + count)) - 1);
+        word = word_of(difference(encoded(f->form, f->index, most), encoded(f->form, f->index, 0)), mask);
     }
-    changed = encoded(f->form, f->index, (uint32_t)most) ^ encoded(f->form, f->index, 0);
-    expect(changed == wanted || changed == wanted << 32, f->name);
-    return changed;
+    expect(word >= 0, f->name);
+    if (word >= 0) taken.at[word] = mask;
+    return taken;
 }
 
-/* Each bit of a pair is in one field, and fields stand in their order from the lowest bit up. */
+/* The lowest bit of a field, counted through the words. */
+static int lowest(const struct words *w) {
+    int bit = 0;
+    while (bit < 128 && !(w->at[bit / 32] >> bit % 32 & 1)) bit++;
+    return bit;
+}
+
+/* Each bit is in one field, and fields stand in their order from the lowest bit up. */
 static void check_form(uint32_t form) {
-    uint64_t at[ZLATOMRUK_VALUES] = {0}, all = 0, low = 0;
-    int i, n = 0;
+    struct words at[ZLATOMRUK_VALUES] = {{{0, 0, 0, 0}}}, all = {{0, 0, 0, 0}};
+    int i, j, n = 0, below = -1;
     for (i = 0; i < FIELDS; i++) {
         if (fields[i].form == form) {
             at[fields[i].index] = check_field(&fields[i]);
@@ -77,11 +131,14 @@ static void check_form(uint32_t form) {
     }
     expect(n == numbers[form].values, "a form has as many names as values");
     for (i = 1; i <= n; i++) {
-        expect(at[i] != 0 && (all & at[i]) == 0 && (at[i] & -at[i]) > low, "the fields of a form lie one behind the other");
-        all |= at[i];
-        low = at[i] & -at[i];
+        for (j = 0; j < 4; j++) {
+            expect((all.at[j] & at[i].at[j]) == 0, "no bit is in two fields");
+            all.at[j] |= at[i].at[j];
+        }
+        expect(lowest(&at[i]) > below && lowest(&at[i]) < 128, "the fields of a form lie one behind the other");
+        below = lowest(&at[i]);
     }
-    expect(all == UINT64_MAX, "the fields of a form take the whole pair");
+    for (j = 0; j < 4; j++) expect(all.at[j] == (j < numbers[form].words ? UINT32_MAX : 0), "the fields of a form take its words");
 }
 
 static uint64_t answer_to(const char *kind, const char *build, size_t pack_length) {
@@ -122,11 +179,56 @@ static void check_codec(void) {
     expect(zlatomruk_decode(words, 6, 4, UINT32_MAX, values, ZLATOMRUK_VALUES) == ZLATOMRUK_VERDICT_NO_RECORD, "the largest stream");
 }
 
+/* What a row of this form, its number as given and all else 0, is answered by each encoder, with room for four words and for three. */
+static void check_row(uint32_t form, uint32_t number, uint32_t pair, uint32_t fetch, const char *what) {
+    uint32_t values[ZLATOMRUK_VALUES] = {0}, words[4] = {7, 7, 7, 7};
+    values[0] = form;
+    values[form < FORMS ? numbers[form].index : 1] = number;
+    expect(zlatomruk_encode_fetch(values, ZLATOMRUK_VALUES, words, 4, 0) == fetch, what);
+    expect(fetch == 0 ? words[3] == 0 : words[0] == 7 && words[1] == 7 && words[2] == 7 && words[3] == 7, what);
+    expect(zlatomruk_encode_fetch(values, ZLATOMRUK_VALUES, words, 4, 1) == (fetch == 0 ? ZLATOMRUK_VERDICT_NO_ROOM : fetch), what);
+    expect(zlatomruk_encode_fetch(values, ZLATOMRUK_VALUES, words, 4, SIZE_MAX) == (fetch == 0 ? ZLATOMRUK_VERDICT_NO_ROOM : fetch), what);
+    expect(zlatomruk_encode_fetch(values, ZLATOMRUK_VALUES - 1, words, 4, 0) == ZLATOMRUK_VERDICT_NO_RECORD, what);
+    expect(zlatomruk_encode(values, ZLATOMRUK_VALUES, words, 4, 0) == pair, what);
+}
+
+static void check_fetches(void) {
+    static const uint32_t words[] = {0x00000010, 0, 0, 0, 0x00000000, 0, 0, 0, 0x00000001, 0, 0, 0, 0x00000001, 0, 0, 1};
+    uint32_t values[ZLATOMRUK_VALUES], number;
+    expect(zlatomruk_decode_fetch(words, 16, 0, ZLATOMRUK_FETCH_TEX, values, ZLATOMRUK_VALUES) == 0 && values[0] == ZLATOMRUK_TEX, "a sample");
+    for (number = ZLATOMRUK_FETCH_VTX; number <= ZLATOMRUK_FETCH_VTX_TC; number++) {
+        expect(zlatomruk_decode_fetch(words, 16, 4, number, values, ZLATOMRUK_VALUES) == 0 && values[0] == ZLATOMRUK_VTX_GPR, "a fetch");
+        expect(zlatomruk_decode_fetch(words, 16, 8, number, values, ZLATOMRUK_VALUES) == 0 && values[0] == ZLATOMRUK_VTX_SEM, "a semantic one");
+        expect(zlatomruk_decode_fetch(words, 16, 0, number, values, ZLATOMRUK_VALUES) == ZLATOMRUK_VERDICT_FETCH_NUMBER, "a sample in VTX");
+        expect(zlatomruk_decode_fetch(words, 16, 12, number, values, ZLATOMRUK_VALUES) == ZLATOMRUK_VERDICT_FETCH_NUMBER, "a word 3 that is not 0");
+    }
+    expect(zlatomruk_decode_fetch(words, 16, 4, ZLATOMRUK_FETCH_TEX, values, ZLATOMRUK_VALUES) == ZLATOMRUK_VERDICT_FETCH_NUMBER, "number 0 in TEX");
+    expect(zlatomruk_decode_fetch(words, 16, 0, ZLATOMRUK_FETCH_TEX, values, ZLATOMRUK_VALUES - 1) == ZLATOMRUK_VERDICT_NO_ROOM, "a row too short");
+    expect(zlatomruk_decode_fetch(words, 16, 13, ZLATOMRUK_FETCH_TEX, values, ZLATOMRUK_VALUES) == ZLATOMRUK_VERDICT_LENGTH, "three words");
+    expect(zlatomruk_decode_fetch(NULL, 0, 0, ZLATOMRUK_FETCH_TEX, NULL, 0) == ZLATOMRUK_VERDICT_LENGTH, "no words");
+    expect(zlatomruk_decode_fetch(words, 16, SIZE_MAX, ZLATOMRUK_FETCH_VTX, NULL, 0) == ZLATOMRUK_VERDICT_LENGTH, "the largest start");
+    expect(zlatomruk_decode_fetch(NULL, 0, 0, 0, NULL, 0) == ZLATOMRUK_VERDICT_NO_RECORD, "kind 0");
+    expect(zlatomruk_decode_fetch(words, 16, 0, ZLATOMRUK_FETCH_VTX_TC + 1, values, ZLATOMRUK_VALUES) == ZLATOMRUK_VERDICT_NO_RECORD, "kind 4");
+    expect(zlatomruk_decode_fetch(words, 16, 0, UINT32_MAX, values, ZLATOMRUK_VALUES) == ZLATOMRUK_VERDICT_NO_RECORD, "the largest kind");
+    for (number = 0; number < 64; number++) {
+        int taken = (number >= 2 && number <= 8) || (number >= 10 && number <= 12) || number == 14 || (number >= 16 && number <= 31);
+        check_row(ZLATOMRUK_TEX, number, ZLATOMRUK_VERDICT_NO_RECORD, taken ? 0 : ZLATOMRUK_VERDICT_NO_RECORD, "a number of TEX");
+        check_row(ZLATOMRUK_VTX_GPR, number, ZLATOMRUK_VERDICT_NO_RECORD, number == 0 ? 0 : ZLATOMRUK_VERDICT_NO_RECORD, "VTX_GPR has number 0");
+        check_row(ZLATOMRUK_VTX_SEM, number, ZLATOMRUK_VERDICT_NO_RECORD, number == 1 ? 0 : ZLATOMRUK_VERDICT_NO_RECORD, "VTX_SEM has number 1");
+    }
+    for (number = 0; number < ZLATOMRUK_TEX; number++) {
+        check_row(number, numbers[number].one, 0, ZLATOMRUK_VERDICT_NO_RECORD, "a pair's form is no fetch's");
+    }
+    check_row(FORMS, 0, ZLATOMRUK_VERDICT_NO_RECORD, ZLATOMRUK_VERDICT_NO_RECORD, "there is no form 8");
+    check_row(UINT32_MAX, 0, ZLATOMRUK_VERDICT_NO_RECORD, ZLATOMRUK_VERDICT_NO_RECORD, "the largest form");
+}
+
 static void *all(void *unused) {
     uint32_t form;
     for (form = 0; form < FORMS; form++) check_form(form);
     check_answers();
     check_codec();
+    check_fetches();
     return unused;
 }
 

@@ -4,6 +4,7 @@ pub mod clause;
 pub mod codec;
 pub mod control;
 pub mod damage;
+pub mod fetch_codec;
 pub mod pack;
 pub mod random;
 

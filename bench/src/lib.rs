@@ -3,4 +3,5 @@
 pub mod generate;
 pub mod plain;
 pub mod proved;
+pub mod tally;
 pub mod timing;

@@ -1,4 +1,4 @@
-//! The proved functions, from the archives that `rt staticlib` makes: the judge (judge_for_c), the codec (codec_for_c), and rules 10 to 15 on one
+//! The proved functions, from the archives that `rt staticlib` makes: the judge (judge_for_c), both codecs (codec_for_c), and rules 10 to 15 on one
 //! clause, which is in an archive for these comparisons alone (bench_clause).
 
 use crate::plain::Kind;
@@ -66,4 +66,25 @@ pub fn decode(words: &[u32], start: usize, stream: u32, values: &mut [u32]) -> u
 pub fn encode(values: &[u32], words: &mut [u32], start: usize) -> u32 {
     // As above.
     unsafe { zlatomruk_encode(values.as_ptr(), values.len(), words.as_mut_ptr(), words.len(), start) }
+}
+
+unsafe extern "C" {
+    fn zlatomruk_decode_fetch(
+        words: *const u32, words_len: usize, start: usize, kind: u32, values: *mut u32, values_len: usize,
+    ) -> u32;
+    fn zlatomruk_encode_fetch(values: *const u32, values_len: usize, words: *mut u32, words_len: usize, start: usize) -> u32;
+}
+
+/// `plain::fetch_codec::decode`, proved.
+#[inline]
+pub fn decode_fetch(words: &[u32], start: usize, kind: u32, values: &mut [u32]) -> u32 {
+    // As above.
+    unsafe { zlatomruk_decode_fetch(words.as_ptr(), words.len(), start, kind, values.as_mut_ptr(), values.len()) }
+}
+
+/// `plain::fetch_codec::encode`, proved.
+#[inline]
+pub fn encode_fetch(values: &[u32], words: &mut [u32], start: usize) -> u32 {
+    // As above.
+    unsafe { zlatomruk_encode_fetch(values.as_ptr(), values.len(), words.as_mut_ptr(), words.len(), start) }
 }

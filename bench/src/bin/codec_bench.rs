@@ -1,11 +1,11 @@
 //! The codec: both versions compared over pairs of words and rows of values, every lent element included, then timed.
 
 use std::hint::black_box;
-use std::process::exit;
 
 use zlatomruk_bench::generate::codec::{STREAMS, numbered, numbers, row, start, taken};
 use zlatomruk_bench::generate::random::Random;
 use zlatomruk_bench::plain::codec::VALUES;
+use zlatomruk_bench::tally::{Tally, fail};
 use zlatomruk_bench::{plain, proved, timing};
 
 /// Pairs of each stream, of each kind: random words, taken numbers, every number in turn.
@@ -37,47 +37,18 @@ fn main() {
     }
 }
 
-/// How often each answer was given.
-#[derive(Default)]
-struct Tally([u64; 22]);
-
-impl Tally {
-    fn count(&mut self, answer: u32) {
-        self.0[answer as usize] += 1;
-    }
-
-    /// Every one of these answers has to have occurred.
-    fn print(&self, what: &str, answers: &[usize]) {
-        println!("{} {what}, no differences; answer: cases", self.0.iter().sum::<u64>());
-        for &answer in answers {
-            println!("  {answer:2}: {}", self.0[answer]);
-            if self.0[answer] == 0 {
-                fail(&format!("answer {answer} did not occur"));
-            }
-        }
-    }
-}
-
-fn fail(why: &str) -> ! {
-    eprintln!("{why}");
-    exit(1)
-}
-
-fn random_words(count: usize, random: &mut Random) -> Vec<u32> {
-    (0..count).map(|_| random.word()).collect()
-}
-
 /// Both decoders on a pair among random words; what was decoded is encoded again.
 fn compare_decode(pair: [u32; 2], stream: u32, random: &mut Random) -> u32 {
     let before = random.below(4);
-    let mut words = random_words(before, random);
+    let mut words = random.words(before);
     words.extend(pair);
-    words.extend(random_words(random.below(3), random));
+    let behind = random.below(3);
+    words.extend(random.words(behind));
     let start = start(before, words.len(), random);
     // Now and then a stream that there is none of.
     let stream = if stream == 1 && random.once_in(8) { random.word().max(2) } else { stream };
     let room = if random.once_in(30) { random.below(VALUES) } else { VALUES + random.below(3) };
-    let mut ours = random_words(room, random);
+    let mut ours = random.words(room);
     let mut theirs = ours.clone();
     let answer = plain::codec::decode(&words, start, stream, &mut ours);
     if answer != proved::decode(&words, start, stream, &mut theirs) || ours != theirs {
@@ -97,7 +68,7 @@ fn compare_decode(pair: [u32; 2], stream: u32, random: &mut Random) -> u32 {
 fn compare_encode(values: &[u32], random: &mut Random) -> u32 {
     let length = random.below(8);
     let start = start(random.below(length.max(2) - 1), length, random);
-    let mut ours = random_words(length, random);
+    let mut ours = random.words(length);
     let mut theirs = ours.clone();
     let answer = plain::codec::encode(values, &mut ours, start);
     if answer != proved::encode(values, &mut theirs, start) || ours != theirs {

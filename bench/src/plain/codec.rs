@@ -7,12 +7,12 @@ use super::opcodes::{UNTAKEN, class_of};
 /// Elements that a row of values has to have, whatever its form.
 pub const VALUES: usize = 32;
 
-/// What the longest form, OP2, takes of them.
+/// What the longest form of a pair, OP2, takes of them.
 pub const LONGEST: usize = 24;
 
 /// Bits HIGH:LOW of a word.
 #[inline(always)]
-fn bits<const HIGH: u32, const LOW: u32>(word: u32) -> u32 {
+pub(super) fn bits<const HIGH: u32, const LOW: u32>(word: u32) -> u32 {
     word << (31 - HIGH) >> (31 - HIGH + LOW)
 }
 

@@ -1,8 +1,8 @@
 //! Rules 8 and 9 on a fetch clause.
 
 /// One bit for each taken number: section 9.4 for TEX, section 9.3 for VTX and VTX_TC.
-const TEX_NUMBERS: u32 = 0xFFFF_0000 | 1 << 14 | 7 << 10 | 0x7F << 2;
-const VTX_NUMBERS: u32 = 0b11;
+pub(super) const TEX_NUMBERS: u32 = 0xFFFF_0000 | 1 << 14 | 7 << 10 | 0x7F << 2;
+pub(super) const VTX_NUMBERS: u32 = 0b11;
 const SEMANTIC: u32 = 1;
 
 /// Number and slot of the first fault, fetch by fetch.

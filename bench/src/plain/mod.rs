@@ -4,6 +4,7 @@ pub mod alu;
 pub mod card;
 pub mod codec;
 pub mod control;
+pub mod fetch_codec;
 pub mod fetches;
 pub mod flow;
 #[cfg(test)]

@@ -2,4 +2,5 @@
 pub mod OfPut
 pub mod OfCodec
 pub mod OfValues
+pub mod OfFetches
 pub mod Examples

@@ -1,7 +1,7 @@
 -- Decoder and encoder, by what its code tests and calls on the way to each answer. Assumes nothing.
 use mathlib.Core.Path.{_≡_, refl, sym, ap, _∙_}
 use mathlib.Core.Logic.{⊎-elim}
-use mathlib.Core.Bool.{true, false}
+use mathlib.Core.Bool.{true, false, cond}
 use mathlib.Core.List.{List, [], _∷_}
 use Prim.Native.Nat.{ℕ, _≤_, _<_}
 use native.Mathlib.Omega.{arith}
@@ -19,26 +19,28 @@ use Rattle.microcode.specs.declared.Encoded.the-variants.{NoRecord, NoRoom, Don
 use Rattle.microcode.specs.declared.Stream.{Stream}
 use Rattle.microcode.proofs.Decoded as decoded-type
 use Rattle.microcode.specs.Buffer.{decodeOf, decodedVerdict, encodeAnswer, encodeWords, encodedVerdict}
-use Rattle.codec_for_c.specs.Values.{valuesOf, rowLength, written, formOf, recordOf, roomy, isRecord, streamNumbered, rowAnswer, rowVerdict, rowAfter, isStream, decodedNumber, decodedValues, encodedFrom, encodedNumber, encodedWords}
+use Rattle.codec_for_c.specs.Values.{rowLength, written, formOf, recordOf, roomy, isRecord, streamNumbered, rowAnswer, rowVerdict, rowAfter, isStream, decodedNumber, decodedValues, encodedFrom, encodedNumber, encodedWords}
 
-roomy-yes : (vs : List ℕ) → rowLength ≤ length vs → roomy vs ≡ true
+pub roomy-yes : (vs : List ℕ) → rowLength ≤ length vs → roomy vs ≡ true
 unfolding roomy
 roomy-yes vs h = le-leb rowLength (length vs) h
 
-roomy-no : (vs : List ℕ) → length vs < rowLength → roomy vs ≡ false
+pub roomy-no : (vs : List ℕ) → length vs < rowLength → roomy vs ≡ false
 unfolding roomy
 roomy-no vs h = lt-leb rowLength (length vs) h
 
 -- ---- decoding
 
-module _ (i : Instruction) (vs : List ℕ) where
-  pub filled : (j : Instruction) (row m : List ℕ) → m ≡ written row vs → row ≡ valuesOf j → i ≡ j → m ≡ written (valuesOf i) vs
-  filled j row m e f g = e ∙ ap (λ (r : List ℕ). written r vs) (f ∙ ap valuesOf (sym g))
+-- the row of the form that was told
+pub filled : {A : Type 0} (values-of : A → List ℕ) (i j : A) (vs row m : List ℕ) → m ≡ written row vs → row ≡ values-of j → i ≡ j → m ≡ written (values-of i) vs
+filled values-of i j vs row m e f g = e ∙ ap (λ (r : List ℕ). written r vs) (f ∙ ap values-of (sym g))
 
-  pub write-short : length vs < rowLength → (NoRoom ≡ rowAnswer vs) × (vs ≡ rowAfter (Taken i) vs)
+-- a row, where there is room for the longest form or not
+module _ (row vs : List ℕ) where
+  pub write-short : length vs < rowLength → (NoRoom ≡ rowAnswer vs) × (vs ≡ cond (roomy vs) (written row vs) vs)
   write-short h = (rw (roomy-no vs h), rw (roomy-no vs h))
 
-  pub write-all : (m : List ℕ) → rowLength ≤ length vs → m ≡ written (valuesOf i) vs → (Done ≡ rowAnswer vs) × (m ≡ rowAfter (Taken i) vs)
+  pub write-all : (m : List ℕ) → rowLength ≤ length vs → m ≡ written row vs → (Done ≡ rowAnswer vs) × (m ≡ cond (roomy vs) (written row vs) vs)
   write-all m h e = (rw (roomy-yes vs h), rw (roomy-yes vs h) e)
 
 -- where the code knows that the decoder gave no record, which has tag 2, its refusal is the answer and changes nothing

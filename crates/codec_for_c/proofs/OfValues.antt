@@ -103,7 +103,7 @@ elements-rest vs k (suc n) h =
     ∙ sym (drop-cons vs k 0 (omega arith))
 
 -- a form and the elements behind it, and what stands behind those
-values-first : (vs : List ℕ) (form n : ℕ) → formOf vs ≡ form → suc n ≤ length vs → form ∷ elements vs 1 n ++ drop (suc n) vs ≡ vs
+pub values-first : (vs : List ℕ) (form n : ℕ) → formOf vs ≡ form → suc n ≤ length vs → form ∷ elements vs 1 n ++ drop (suc n) vs ≡ vs
 values-first vs form n e h =
     ap (λ (x : ℕ). x ∷ elements vs 1 n ++ drop (suc n) vs) (sym e)
     ∙ ap (λ (m : ℕ). elements vs 0 (suc n) ++ drop m vs) (sym (zero-add (suc n)))
@@ -161,7 +161,7 @@ taken-with stream.Alu vs NotTaken h f = absurd (omega arith)
 taken-with s vs (Taken i) h f = by-test (roomy vs) (λ t. f i refl t) (λ t. let z : verdictNumber (encodedVerdict NoRoom) ≡ 0 = rw t at h in absurd (omega arith))
 
 -- and one that was written
-done-with : (x : Encoded) → verdictNumber (encodedVerdict x) ≡ 0 → x ≡ Done
+pub done-with : (x : Encoded) → verdictNumber (encodedVerdict x) ≡ 0 → x ≡ Done
 done-with NoRecord h = absurd (omega arith)
 done-with NoRoom h = absurd (omega arith)
 done-with Done h = refl
@@ -174,13 +174,16 @@ form-of-values (Export a b) pad = refl
 form-of-values (Op2 a b) pad = refl
 form-of-values (Op3 a b) pad = refl
 
-written-record : (i : Instruction) (vs : List ℕ) → roomy vs ≡ true → isRecord (written (valuesOf i) vs) ≡ true
-unfolding isRecord roomy
-written-record i vs h =
-    let n = length (valuesOf i) in
+-- what was written into such a row leaves one
+pub written-roomy : (row vs : List ℕ) → roomy vs ≡ true → roomy (written row vs) ≡ true
+unfolding roomy
+written-roomy row vs h =
     let k : rowLength ≤ length vs = leb-true rowLength (length vs) h in
-    let l : rowLength ≤ length (written (valuesOf i) vs) = omega (arith, length-append (valuesOf i) (drop n vs), length-drop n vs) in
-    rw (le-leb rowLength (length (written (valuesOf i) vs)) l) (form-of-values i (drop n vs))
+    le-leb rowLength (length (written row vs)) (omega (arith, length-append row (drop (length row) vs), length-drop (length row) vs))
+
+written-record : (i : Instruction) (vs : List ℕ) → roomy vs ≡ true → isRecord (written (valuesOf i) vs) ≡ true
+unfolding isRecord
+written-record i vs h = rw (written-roomy (valuesOf i) vs h) (form-of-values i (drop (length (valuesOf i)) vs))
 
 -- words that were decoded, encoded from their values at the same place: 0, and every word is as it was. The premise on the words is that
 -- they have 32 bits

@@ -1,2 +1,3 @@
 -- The root of what the contracts cite.
 pub mod Values
+pub mod FetchValues

@@ -1,8 +1,13 @@
-// The codec for C and Rust to link, by `rt staticlib codec_for_c`: an instruction as a row of 32-bit values, its form and then its fields in
-// AMD's order (specs/Values.antt).
+// The codec for C and Rust to link, by `rt staticlib codec_for_c`: an instruction or a fetch as a row of 32-bit values, its form and then its
+// fields in AMD's order (specs/Values.antt and specs/FetchValues.antt).
+mod fetch_records;
+mod fetch_rows;
 mod records;
 mod rows;
 
+use fetch_codec::Clause;
+use fetch_codec::Fetch;
+use fetch_codec::FetchDecoded;
 use microcode::Decoded;
 use microcode::Encoded;
 use microcode::Instruction;
@@ -15,7 +20,11 @@ ghost use Rattle.checks.specs.Verdict.{verdictNumber};
 ghost use Rattle.microcode.specs.declared.Decoded.the-variants as decoded;
 ghost use Rattle.microcode.specs.Pair.{streamOf};
 ghost use Rattle.microcode.specs.Buffer.{decodedVerdict, encodedVerdict};
+ghost use Rattle.fetch_codec.specs.declared.FetchDecoded.the-variants as fetch;
+ghost use Rattle.fetch_codec.specs.Fetch.{kindOf, formKind};
+ghost use Rattle.fetch_codec.specs.Buffer as fetches;
 ghost use Rattle.codec_for_c.specs.Values.{rowLength, streamNumber, streamNumbered, rowAnswer, rowAfter, decodedNumber, decodedValues, written, valuesOf, recordOf, encodedNumber, encodedWords, WordsAgain, RowAgain};
+ghost use Rattle.codec_for_c.specs.FetchValues.{clauseNumber, clauseNumbered, fetchValues, fetchIn, fetchAfter, fetchNumber, fetchRow, fetchFromNumber, fetchWords, FetchWordsAgain, FetchRowAgain};
 
 // A row has as many elements or more, whatever its form.
 const ROW: usize = 32;
@@ -62,6 +71,54 @@ pub extern "C" fn zlatomruk_encode(values: &[u32], words: &mut [u32], start: usi
     encoded_number(microcode::write(record, words, Words(start)))
 }
 
+// The fetch at word `start` in a clause of that kind, which is the opener's CF number, as values. 21 where it is no fetch clause's; 2 and 8 are
+// the decoder's; 20 where `values` has fewer than 32 elements. After a 0 the row encodes to the same words again.
+#[no_mangle]
+pub extern "C" fn zlatomruk_decode_fetch(
+    words: &[u32],
+    start: usize,
+    kind: u32,
+    values: &mut [u32],
+) -> u32
+    ensures { λ r. ⌜ r ≡ fetchNumber kind (now (words .entry)) start (now (values .entry)) ⌝ }
+    ensures { λ r. ⌜ now (values .exit) ≡ fetchRow kind (now (words .entry)) start (now (values .entry)) ⌝ }
+    ensures { λ r. ⌜ (r ≡ 0 → FetchWordsAgain (now (values .exit)) (now (words .entry)) start) ⌝ }
+{
+    if kind == 0 {
+        return encoded_number(Encoded::NoRecord);
+    }
+    if 3 < kind {
+        return encoded_number(Encoded::NoRecord);
+    }
+    let d = fetch_codec::decode(words, Words(start), clause_numbered(kind));
+    let FetchDecoded::Taken(f) = d else {
+        return fetch_number(d);
+    };
+    encoded_number(write_fetch(f, values))
+}
+
+// The fetch that the values hold, as four words at word `start`. 21 where it can't be encoded, or 32 elements or the form are missing; 20
+// where the words have no room. After a 0 the words decode, in every clause of the form's kind, to the same row again.
+#[no_mangle]
+pub extern "C" fn zlatomruk_encode_fetch(values: &[u32], words: &mut [u32], start: usize) -> u32
+    ensures { λ r. ⌜ r ≡ fetchFromNumber (now (values .entry)) (now (words .entry)) start ⌝ }
+    ensures { λ r. ⌜ now (words .exit) ≡ fetchWords (now (values .entry)) (now (words .entry)) start ⌝ }
+    ensures { λ r. ⌜ (r ≡ 0 → (clause : Clause) → kindOf clause ≡ formKind (fetchIn (now (values .entry))) → FetchRowAgain (clauseNumber clause) (now (words .exit)) start (now (values .entry))) ⌝ }
+{
+    if values.len() < ROW {
+        return encoded_number(Encoded::NoRecord);
+    }
+    let form = values[0];
+    if form < 5 {
+        return encoded_number(Encoded::NoRecord);
+    }
+    if 7 < form {
+        return encoded_number(Encoded::NoRecord);
+    }
+    let fetch = fetch_records::words_of(values);
+    encoded_number(fetch_codec::write(fetch, words, Words(start)))
+}
+
 fn stream_numbered(n: u32) -> Stream
     ensures { λ r. ⌜ r ≡ streamNumbered n ⌝ }
 {
@@ -71,11 +128,29 @@ fn stream_numbered(n: u32) -> Stream
     Stream::Alu
 }
 
+fn clause_numbered(n: u32) -> Clause
+    ensures { λ r. ⌜ r ≡ clauseNumbered n ⌝ }
+{
+    if n == 1 {
+        return Clause::Tex;
+    }
+    if n == 2 {
+        return Clause::Vtx;
+    }
+    Clause::VtxTc
+}
+
 // The numbers of the answers.
 fn decoded_number(s: Stream, d: Decoded) -> u32
     ensures { λ r. ⌜ r ≡ verdictNumber (decodedVerdict s d) ⌝ }
 {
     checks::verdict_number(microcode::decoded_verdict(s, d)) as u32
+}
+
+fn fetch_number(d: FetchDecoded) -> u32
+    ensures { λ r. ⌜ r ≡ verdictNumber (fetches.decodedVerdict d) ⌝ }
+{
+    checks::verdict_number(fetch_codec::decoded_verdict(d)) as u32
 }
 
 fn encoded_number(e: Encoded) -> u32
@@ -107,6 +182,30 @@ fn fill(i: Instruction, values: &mut [u32])
         Instruction::Export(a, b) => put(&rows::export_row(a, b), values),
         Instruction::Op2(a, b) => put(&rows::op2_row(a, b), values),
         Instruction::Op3(a, b) => put(&rows::op3_row(a, b), values),
+    }
+}
+
+// The same of a fetch.
+fn write_fetch(f: Fetch, values: &mut [u32]) -> Encoded
+    ensures { λ r. ⌜ r ≡ rowAnswer (now (values .entry)) ⌝ }
+    ensures { λ r. ⌜ now (values .exit) ≡ fetchAfter (fetch.Taken f) (now (values .entry)) ⌝ }
+{
+    let room = values.len();
+    if room < ROW {
+        return Encoded::NoRoom;
+    }
+    fill_fetch(f, values);
+    Encoded::Done
+}
+
+fn fill_fetch(f: Fetch, values: &mut [u32])
+    requires { ⌜ rowLength ≤ length (now values) ⌝ }
+    ensures { λ r. ⌜ now (values .exit) ≡ written (fetchValues f) (now (values .entry)) ⌝ }
+{
+    match f {
+        Fetch::Tex(a, b, c) => put(&fetch_rows::tex_row(a, b, c), values),
+        Fetch::VtxGpr(a, b, c) => put(&fetch_rows::vtx_gpr_row(a, b, c), values),
+        Fetch::VtxSem(a, b, c) => put(&fetch_rows::vtx_sem_row(a, b, c), values),
     }
 }
 

@@ -69,7 +69,7 @@ fn fetch_fault(kind: FetchKind, limits: Limits, word0: u32, word1: u32, word3: u
 }
 
 // Rule 8: the number is not taken, or the fourth word is not 0.
-fn is_bad(kind: FetchKind, number: u32, word3: u32) -> bool
+pub fn is_bad(kind: FetchKind, number: u32, word3: u32) -> bool
     ensures { λ r. ⌜ r ≡ badFetch kind number word3 ⌝ }
 {
     if word3 != 0 {

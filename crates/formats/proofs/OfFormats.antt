@@ -24,6 +24,8 @@ use Rattle.formats.specs.Cf as cf
 use Rattle.formats.specs.CfAlu as cfAlu
 use Rattle.formats.specs.Export as export
 use Rattle.formats.specs.Alu as alu
+use Rattle.formats.specs.Tex as tex
+use Rattle.formats.specs.Vtx as vtx
 
 -- a format: its table takes each bit once, and the record's fields are the table's
 pub record Format {W : Type 0} (table : List Bits) (values : W → List ℕ) (of : ℕ → W) : Type 0 where
@@ -155,3 +157,45 @@ pub alu-op3 : Format alu.op3Table alu.op3Values alu.op3Of
 unfolding alu.op3Table
 alu-op3 =
     record { filled = refl; make = alu-op3-made; of-make = λ n. refl; make-values = λ r. refl; values-of = λ n. refl }
+
+-- TEX_WORD0
+pub tex-word0 : Format tex.word0Table tex.word0Values tex.word0Of
+unfolding tex.word0Fields
+tex-word0 =
+    record { filled = refl; make = tex.word0At 0; of-make = λ n. refl; make-values = λ r. refl; values-of = λ n. refl }
+
+-- TEX_WORD1
+pub tex-word1 : Format tex.word1Table tex.word1Values tex.word1Of
+unfolding tex.word1Fields
+tex-word1 =
+    record { filled = refl; make = tex.word1At 0; of-make = λ n. refl; make-values = λ r. refl; values-of = λ n. refl }
+
+-- TEX_WORD2
+pub tex-word2 : Format tex.word2Table tex.word2Values tex.word2Of
+unfolding tex.word2Fields
+tex-word2 =
+    record { filled = refl; make = tex.word2At 0; of-make = λ n. refl; make-values = λ r. refl; values-of = λ n. refl }
+
+-- VTX_WORD0
+pub vtx-word0 : Format vtx.word0Table vtx.word0Values vtx.word0Of
+unfolding vtx.word0Fields
+vtx-word0 =
+    record { filled = refl; make = vtx.word0At 0; of-make = λ n. refl; make-values = λ r. refl; values-of = λ n. refl }
+
+-- VTX_WORD1_GPR
+pub vtx-gpr : Format vtx.gprTable vtx.gprValues vtx.gprOf
+unfolding vtx.gprFields
+vtx-gpr =
+    record { filled = refl; make = vtx.gprAt 0; of-make = λ n. refl; make-values = λ r. refl; values-of = λ n. refl }
+
+-- VTX_WORD1_SEM
+pub vtx-sem : Format vtx.semTable vtx.semValues vtx.semOf
+unfolding vtx.semFields
+vtx-sem =
+    record { filled = refl; make = vtx.semAt 0; of-make = λ n. refl; make-values = λ r. refl; values-of = λ n. refl }
+
+-- VTX_WORD2
+pub vtx-word2 : Format vtx.word2Table vtx.word2Values vtx.word2Of
+unfolding vtx.word2Fields
+vtx-word2 =
+    record { filled = refl; make = vtx.word2At 0; of-make = λ n. refl; make-values = λ r. refl; values-of = λ n. refl }

@@ -2,6 +2,8 @@
 -- document 002, and document 01, "Control-flow words" and "Groups of ALU slots". A name that two formats give to different bits has the
 -- format's before it.
 use Prim.Native.Nat.{ℕ}
+use Prim.Native.String.{String}
+use mathlib.Core.List.{List, map}
 use Rattle.bits.specs.declared.Bits.{Bits}
 use Rattle.bits.specs.Fields.{bits, bit, valueIn}
 
@@ -17,7 +19,12 @@ pub data Field : Type 0 where
   «ALT_CONST» «CF_ALU_INST» : Field
   «ARRAY_BASE» «TYPE» «RW_GPR» «RW_REL» «INDEX_GPR» «ELEM_SIZE» : Field
   «SEL_X» «SEL_Y» «SEL_Z» «SEL_W» «BITS_16_12» «BURST_COUNT» : Field
-  «FETCH_INST» «FETCH_SRC_GPR» «FETCH_SRC_REL» «FETCH_DST_GPR» «FETCH_DST_REL» : Field
+  «FETCH_INST» «FETCH_WHOLE_QUAD» «FETCH_SRC_GPR» «FETCH_SRC_REL» «FETCH_DST_GPR» «FETCH_DST_REL» «RESERVED1_8» «DST_SEL_X» : Field
+  «DST_SEL_Y» «DST_SEL_Z» «DST_SEL_W» : Field
+  «BC_FRAC_MODE» «RESERVED0_6» «RESOURCE_ID» «TEX_ALT_CONST» «RESERVED0_25» «LOD_BIAS» «COORD_TYPE_X» «COORD_TYPE_Y» «COORD_TYPE_Z» : Field
+  «COORD_TYPE_W» «OFFSET_X» «OFFSET_Y» «OFFSET_Z» «SAMPLER_ID» «TEX_SRC_SEL_X» «SRC_SEL_Y» «SRC_SEL_Z» «SRC_SEL_W» : Field
+  «FETCH_TYPE» «BUFFER_ID» «VTX_SRC_SEL_X» «MEGA_FETCH_COUNT» «SEMANTIC_ID» «USE_CONST_FIELDS» «DATA_FORMAT» «NUM_FORMAT_ALL» : Field
+  «FORMAT_COMP_ALL» «SRF_MODE_ALL» «OFFSET» «ENDIAN_SWAP» «CONST_BUF_NO_STRIDE» «MEGA_FETCH» «VTX_ALT_CONST» «RESERVED2_21» : Field
 
 -- highest bit and lowest bit
 abbrev pub position : Field → Bits
@@ -95,13 +102,60 @@ position «SEL_Z» = bits 8 6
 position «SEL_W» = bits 11 9
 position «BITS_16_12» = bits 16 12
 position «BURST_COUNT» = bits 20 17
--- fetches, words 0 and 1: sections 10.3 and 10.4, where VTX and TEX have them at the same bits. FETCH_INST is VTX_INST or TEX_INST
+-- fetches, words 0 and 1: sections 10.3 and 10.4, where VTX and TEX have them at the same bits. FETCH_INST is VTX_INST or TEX_INST. Bits that the
+-- guide calls reserved are carried, in fields named by their word and lowest bit
 position «FETCH_INST» = bits 4 0
+position «FETCH_WHOLE_QUAD» = bit 7
 position «FETCH_SRC_GPR» = bits 22 16
 position «FETCH_SRC_REL» = bit 23
 position «FETCH_DST_GPR» = bits 6 0
 position «FETCH_DST_REL» = bit 7
+position «RESERVED1_8» = bit 8
+position «DST_SEL_X» = bits 11 9
+position «DST_SEL_Y» = bits 14 12
+position «DST_SEL_Z» = bits 17 15
+position «DST_SEL_W» = bits 20 18
+-- TEX_WORD0, TEX_WORD1 and TEX_WORD2: section 10.4, "Texture Fetch Doubleword 0", ".. 1" and ".. 2"
+position «BC_FRAC_MODE» = bit 5
+position «RESERVED0_6» = bit 6
+position «RESOURCE_ID» = bits 15 8
+position «TEX_ALT_CONST» = bit 24
+position «RESERVED0_25» = bits 31 25
+position «LOD_BIAS» = bits 27 21
+position «COORD_TYPE_X» = bit 28
+position «COORD_TYPE_Y» = bit 29
+position «COORD_TYPE_Z» = bit 30
+position «COORD_TYPE_W» = bit 31
+position «OFFSET_X» = bits 4 0
+position «OFFSET_Y» = bits 9 5
+position «OFFSET_Z» = bits 14 10
+position «SAMPLER_ID» = bits 19 15
+position «TEX_SRC_SEL_X» = bits 22 20
+position «SRC_SEL_Y» = bits 25 23
+position «SRC_SEL_Z» = bits 28 26
+position «SRC_SEL_W» = bits 31 29
+-- VTX_WORD0, VTX_WORD1_SEM, VTX_WORD1 of either form, VTX_WORD2: section 10.3, "Vertex Fetch Doubleword 0" to ".. 2"
+position «FETCH_TYPE» = bits 6 5
+position «BUFFER_ID» = bits 15 8
+position «VTX_SRC_SEL_X» = bits 25 24
+position «MEGA_FETCH_COUNT» = bits 31 26
+position «SEMANTIC_ID» = bits 7 0
+position «USE_CONST_FIELDS» = bit 21
+position «DATA_FORMAT» = bits 27 22
+position «NUM_FORMAT_ALL» = bits 29 28
+position «FORMAT_COMP_ALL» = bit 30
+position «SRF_MODE_ALL» = bit 31
+position «OFFSET» = bits 15 0
+position «ENDIAN_SWAP» = bits 17 16
+position «CONST_BUF_NO_STRIDE» = bit 18
+position «MEGA_FETCH» = bit 19
+position «VTX_ALT_CONST» = bit 20
+position «RESERVED2_21» = bits 31 21
 
 -- the value of a field in a word
 abbrev pub _of_ : Field → ℕ → ℕ
 _of_ f n = valueIn n (position f)
+
+-- where the fields of a format stand, which has each with the name that AMD gives it there
+abbrev pub positions : List (String × Field) → List Bits
+positions fs = map (λ (f : String × Field). position (f .1)) fs

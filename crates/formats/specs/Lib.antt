@@ -4,3 +4,5 @@ pub mod Cf
 pub mod CfAlu
 pub mod Export
 pub mod Alu
+pub mod Tex
+pub mod Vtx

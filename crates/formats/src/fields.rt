@@ -141,8 +141,10 @@ pub const BITS_16_12: Bits = Bits(16, 12);
 
 pub const BURST_COUNT: Bits = Bits(20, 17);
 
-// fetches, words 0 and 1.
+// fetches: words 0 and 1 of both kinds.
 pub const FETCH_INST: Bits = Bits(4, 0);
+
+pub const FETCH_WHOLE_QUAD: Bits = Bits(7, 7);
 
 pub const FETCH_SRC_GPR: Bits = Bits(22, 16);
 
@@ -151,3 +153,83 @@ pub const FETCH_SRC_REL: Bits = Bits(23, 23);
 pub const FETCH_DST_GPR: Bits = Bits(6, 0);
 
 pub const FETCH_DST_REL: Bits = Bits(7, 7);
+
+pub const RESERVED1_8: Bits = Bits(8, 8);
+
+pub const DST_SEL_X: Bits = Bits(11, 9);
+
+pub const DST_SEL_Y: Bits = Bits(14, 12);
+
+pub const DST_SEL_Z: Bits = Bits(17, 15);
+
+pub const DST_SEL_W: Bits = Bits(20, 18);
+
+// TEX_WORD0, TEX_WORD1 and TEX_WORD2.
+pub const BC_FRAC_MODE: Bits = Bits(5, 5);
+
+pub const RESERVED0_6: Bits = Bits(6, 6);
+
+pub const RESOURCE_ID: Bits = Bits(15, 8);
+
+pub const TEX_ALT_CONST: Bits = Bits(24, 24);
+
+pub const RESERVED0_25: Bits = Bits(31, 25);
+
+pub const LOD_BIAS: Bits = Bits(27, 21);
+
+pub const COORD_TYPE_X: Bits = Bits(28, 28);
+
+pub const COORD_TYPE_Y: Bits = Bits(29, 29);
+
+pub const COORD_TYPE_Z: Bits = Bits(30, 30);
+
+pub const COORD_TYPE_W: Bits = Bits(31, 31);
+
+pub const OFFSET_X: Bits = Bits(4, 0);
+
+pub const OFFSET_Y: Bits = Bits(9, 5);
+
+pub const OFFSET_Z: Bits = Bits(14, 10);
+
+pub const SAMPLER_ID: Bits = Bits(19, 15);
+
+pub const TEX_SRC_SEL_X: Bits = Bits(22, 20);
+
+pub const SRC_SEL_Y: Bits = Bits(25, 23);
+
+pub const SRC_SEL_Z: Bits = Bits(28, 26);
+
+pub const SRC_SEL_W: Bits = Bits(31, 29);
+
+// VTX_WORD0, VTX_WORD1_SEM, both of VTX_WORD1, VTX_WORD2.
+pub const FETCH_TYPE: Bits = Bits(6, 5);
+
+pub const BUFFER_ID: Bits = Bits(15, 8);
+
+pub const VTX_SRC_SEL_X: Bits = Bits(25, 24);
+
+pub const MEGA_FETCH_COUNT: Bits = Bits(31, 26);
+
+pub const SEMANTIC_ID: Bits = Bits(7, 0);
+
+pub const USE_CONST_FIELDS: Bits = Bits(21, 21);
+
+pub const DATA_FORMAT: Bits = Bits(27, 22);
+
+pub const NUM_FORMAT_ALL: Bits = Bits(29, 28);
+
+pub const FORMAT_COMP_ALL: Bits = Bits(30, 30);
+
+pub const SRF_MODE_ALL: Bits = Bits(31, 31);
+
+pub const OFFSET: Bits = Bits(15, 0);
+
+pub const ENDIAN_SWAP: Bits = Bits(17, 16);
+
+pub const CONST_BUF_NO_STRIDE: Bits = Bits(18, 18);
+
+pub const MEGA_FETCH: Bits = Bits(19, 19);
+
+pub const VTX_ALT_CONST: Bits = Bits(20, 20);
+
+pub const RESERVED2_21: Bits = Bits(31, 21);

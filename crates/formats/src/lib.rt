@@ -5,6 +5,8 @@ pub mod cf;
 pub mod cf_alu;
 pub mod export;
 pub mod fields;
+pub mod tex;
+pub mod vtx;
 
 use bits::Bits;
 ghost use mathlib.Core.Path.{_≡_};

@@ -1,17 +1,19 @@
 -- Decoding and encoding at a start, by what the code tests; and what is put into the part of a buffer from a start on is put into the
 -- buffer at the start. Assumes nothing.
-use mathlib.Core.Path.{_≡_, refl, sym, ap, ap₂, _∙_, subst}
+use mathlib.Core.Path.{_≡_, sym, ap, ap₂, _∙_}
 use mathlib.Core.Bool.{Bool, true, false, not, cond}
-use mathlib.Core.List.{List, _++_, append-nil}
-use Prim.Native.Nat.{ℕ, _+_, _-_, _≤_, _<_}
-use native.Mathlib.Nat.{le-refl, le-of-eq, le-add-right, add-zero}
+use mathlib.Core.List.{List, [], _∷_, _++_, append-nil}
+use Prim.Native.Nat.{ℕ, suc, _+_, _-_, _≤_, _<_}
+use native.Mathlib.Nat.{le-of-eq, le-add-right, add-zero, add-suc}
+use native.Mathlib.Numerals.{add-one}
 use native.Mathlib.Omega.{arith}
 use lib.Dec.{leb}
 use lib.ListN.{length, getD, take, drop, set, take-append-drop, length-drop, drop-of-length-le}
-use lib.Seq.{take-set-le, drop-set-add}
+use lib.Seq.{sets, take-set-le, drop-set-add}
 use borrow.Author.Tests.{le-leb, lt-leb, leb-true, leb-false, not-true, not-false}
 use borrow.Rule.Slice.PartMut.{putMid}
 use Rattle.laws.proofs.OfLists.{to-the-end}
+use Rattle.laws.proofs.OfTests.{by-test}
 use Rattle.units.specs.declared.Words.{Words}
 use Rattle.microcode.specs.declared.Instruction.{Instruction}
 use Rattle.microcode.specs.declared.Decoded.{Decoded}
@@ -55,37 +57,36 @@ module _ (lo hi : ℕ) (l : List ℕ) where
   unfolding putAnswer putWords
   put-done m h e = (rw (roomy l 0 h), rw (roomy l 0 h) e)
 
--- stores behind a are stores in what lies from a on
-set-behind : (a j v : ℕ) (l : List ℕ) → set l (a + j) v ≡ take a l ++ set (drop a l) j v
-set-behind a j v l =
-    sym (take-append-drop a (set l (a + j) v))
-    ∙ ap₂ (λ (x y : List ℕ). x ++ y) (take-set-le a l (a + j) v (le-add-right a j)) (drop-set-add a l j v)
-
-two-words : (a lo hi : ℕ) (l : List ℕ) → take a l ++ set (set (drop a l) 0 lo) 1 hi ≡ set (set l a lo) (a + 1) hi
-two-words a lo hi l =
-    sym
-    (set-behind a 1 hi (set l a lo)
-    ∙ ap₂ (λ (x y : List ℕ). x ++ set y 1 hi) (take-set-le a l a lo (le-refl a))
-    (subst (λ (k : ℕ). drop a (set l k lo) ≡ set (drop a l) 0 lo) (add-zero a) (drop-set-add a l 0 lo)))
+-- stores in what lies from a on are stores behind a
+pub stored-behind : (a j : ℕ) (vs l : List ℕ) → take a l ++ sets (drop a l) j vs ≡ sets l (a + j) vs
+stored-behind a j [] l = take-append-drop a l
+stored-behind a j (v ∷ vs) l =
+    let m = set l (a + j) v in
+    ap₂ (λ (x y : List ℕ). x ++ sets y (suc j) vs) (sym (take-set-le a l (a + j) v (le-add-right a j))) (sym (drop-set-add a l j v))
+    ∙ stored-behind a (suc j) vs m
+    ∙ ap (λ (k : ℕ). sets m k vs) (add-suc a j)
 
 -- the part of a buffer from a on, as it is lent on and as it comes back
 module _ (a : ℕ) (l : List ℕ) where
-  back-again : (p : List ℕ) → putMid a (length l - a) l p ≡ take a l ++ p
+  pub back-again : (p : List ℕ) → putMid a (length l - a) l p ≡ take a l ++ p
   back-again p =
       ap (λ (y : List ℕ). take a l ++ (p ++ y)) (drop-of-length-le (drop a l) (le-of-eq (length-drop a l)))
       ∙ ap (λ (x : List ℕ). take a l ++ x) (append-nil p)
 
+  pub stored-at : (vs : List ℕ) → take a l ++ sets (drop a l) 0 vs ≡ sets l a vs
+  stored-at vs = stored-behind a 0 vs l ∙ ap (λ (k : ℕ). sets l k vs) (add-zero a)
+
+-- n words have room in it exactly if they have at a in the buffer
+pub part-fits : (n a : ℕ) (l : List ℕ) → a ≤ length l → leb n (length (drop a l)) ≡ leb (a + n) (length l)
+part-fits n a l h =
+    by-test (leb (a + n) (length l))
+    (λ e. let k = leb-true (a + n) (length l) e in le-leb n (length (drop a l)) (omega (arith, length-drop a l)) ∙ sym e)
+    (λ e. let k = leb-false (a + n) (length l) e in lt-leb n (length (drop a l)) (omega (arith, length-drop a l)) ∙ sym e)
+
 module _ (a : ℕ) (l : List ℕ) (h : a ≤ length l) where
   part-room : room (drop a l) 0 ≡ room l a
   unfolding room
-  part-room = by (leb (a + 2) (length l)) refl
-    where
-      long : length (drop a l) ≡ length l - a
-      long = length-drop a l
-
-      by : (t : Bool) → leb (a + 2) (length l) ≡ t → leb 2 (length (drop a l)) ≡ leb (a + 2) (length l)
-      by true e = let k = leb-true (a + 2) (length l) e in le-leb 2 (length (drop a l)) (omega (arith, long)) ∙ sym e
-      by false e = let k = leb-false (a + 2) (length l) e in lt-leb 2 (length (drop a l)) (omega (arith, long)) ∙ sym e
+  part-room = part-fits 2 a l h
 
   part-answer : putAnswer (drop a l) ≡ cond (room l a) Done NoRoom
   unfolding putAnswer
@@ -96,7 +97,7 @@ module _ (a : ℕ) (l : List ℕ) (h : a ≤ length l) where
   part-words lo hi = rw part-room (by (room l a))
     where
       by : (t : Bool) → take a l ++ cond t (set (set (drop a l) 0 lo) 1 hi) (drop a l) ≡ cond t (set (set l a lo) (a + 1) hi) l
-      by true = two-words a lo hi l
+      by true = rw add-one (stored-at a l (lo ∷ hi ∷ []))
       by false = take-append-drop a l
 
 module _ (w : RecordWords) (l : List ℕ) (start : Words) where

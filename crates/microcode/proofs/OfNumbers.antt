@@ -18,13 +18,13 @@ use Rattle.microcode.specs.declared.words.RecordWords.{RecordWords}
 use Rattle.microcode.specs.declared.Stream.{Stream}
 use Rattle.microcode.specs.declared.Stream.the-variants.{ControlFlow, Alu}
 use Rattle.microcode.specs.Pair.{openerPairOf, plainPairOf, cfPairOf, op2PairOf, op3PairOf, aluPairOf, pairOf, cfNumberTaken, aluNumberTaken, numberTaken}
-use Rattle.microcode.specs.Buffer.{room, decodeOf, writeAnswer, notTaken, refused, decodedVerdict, encodedVerdict, Answers, decodeNumber, writeNumber}
+use Rattle.microcode.specs.Buffer.{room, decodeOf, answerFor, writeAnswer, notTaken, refused, decodedVerdict, encodedVerdict, Answers, decodeNumber, numberFor, writeNumber}
 use Rattle.microcode.proofs.RoundTrip.{export-is-taken}
 
-accepted-0 : Answers Accepted 0
+pub accepted-0 : Answers Accepted 0
 accepted-0 = record { number = refl; place = refl; slot = refl }
 
-refused-by : (rule : ℕ) → Answers (refused rule) rule
+pub refused-by : (rule : ℕ) → Answers (refused rule) rule
 refused-by rule = record { number = refl; place = refl; slot = refl }
 
 -- ---- a pair
@@ -68,9 +68,11 @@ decode-number s l start =
     (λ t. rw t (pair-number (getD l (start .0) 0) (getD l (start .0 + 1) 0) s))
     (λ t. rw t (refused-by 2))
 
+pub encoded-number : (is-record has-room : Bool) → Answers (encodedVerdict (answerFor is-record has-room)) (numberFor is-record has-room)
+encoded-number true true = accepted-0
+encoded-number true false = refused-by 20
+encoded-number false has-room = refused-by 21
+
 pub write-number : (w : RecordWords) (l : List ℕ) (start : Words) → Answers (encodedVerdict (writeAnswer w l start)) (writeNumber w l start)
 unfolding writeAnswer writeNumber
-write-number w l start =
-    by-test (w .«is_record»)
-    (λ t. by-test (room l (start .0)) (λ u. rw (t, u) accepted-0) (λ u. rw (t, u) (refused-by 20)))
-    (λ t. rw t (refused-by 21))
+write-number w l start = encoded-number (w .«is_record») (room l (start .0))

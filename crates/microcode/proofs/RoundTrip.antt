@@ -207,7 +207,7 @@ room-by : (d : Decoded) (i : Instruction) (t : Bool) → cond t d Outside ≡ Ta
 room-by d i true e = (refl, e)
 room-by d i false e = impossible cc
 
-done-by : (s t : Bool) → cond s (cond t Done NoRoom) NoRecord ≡ Done → (s ≡ true) × (t ≡ true)
+pub done-by : (s t : Bool) → cond s (cond t Done NoRoom) NoRecord ≡ Done → (s ≡ true) × (t ≡ true)
 done-by true true e = (refl, refl)
 done-by true false e = impossible cc
 done-by false t e = impossible cc

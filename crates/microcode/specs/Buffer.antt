@@ -30,9 +30,13 @@ room l start = leb (start + 2) (length l)
 unfoldable pub decodeOf : Stream → List ℕ → Words → Decoded
 decodeOf stream l start = cond (room l (start .0)) (pairOf stream (getD l (start .0) 0) (getD l (start .0 + 1) 0)) Outside
 
--- the words of a record at start: the record is asked about before the room
+-- what the encoder answers: the record is asked about before the room
+abbrev pub answerFor : Bool → Bool → Encoded
+answerFor is-record has-room = cond is-record (cond has-room Done NoRoom) NoRecord
+
+-- the words of a record at start
 unfoldable pub writeAnswer : RecordWords → List ℕ → Words → Encoded
-writeAnswer w l start = cond (w .«is_record») (cond (room l (start .0)) Done NoRoom) NoRecord
+writeAnswer w l start = answerFor (w .«is_record») (room l (start .0))
 
 -- the whole buffer afterwards: all other words stay, and a refusal writes nothing
 unfoldable pub writeWords : RecordWords → List ℕ → Words → List ℕ
@@ -83,8 +87,11 @@ decodeNumber stream l start =
     cond (room l (start .0)) (cond (numberTaken stream (getD l (start .0 + 1) 0)) 0 (notTaken stream)) 2
 
 -- 21 if they are no record's words, else 20 if they don't fit at the start
+abbrev pub numberFor : Bool → Bool → ℕ
+numberFor is-record has-room = cond is-record (cond has-room 0 20) 21
+
 unfoldable pub writeNumber : RecordWords → List ℕ → Words → ℕ
-writeNumber w l start = cond (w .«is_record») (cond (room l (start .0)) 0 20) 21
+writeNumber w l start = numberFor (w .«is_record») (room l (start .0))
 
 -- 21 if a field exceeds its width or the record isn't of a taken form, else 20 if the words don't fit at the start
 abbrev pub encodeNumber : Instruction → List ℕ → Words → ℕ

@@ -126,7 +126,8 @@ pub fn encoded_verdict(e: Encoded) -> Verdict
     }
 }
 
-fn refused(rule: u8) -> Verdict
+// A refusal by that number: every one of the codec has place and slot 0.
+pub fn refused(rule: u8) -> Verdict
     ensures { λ r. ⌜ r ≡ refused rule ⌝ }
 {
     Verdict::Refused {

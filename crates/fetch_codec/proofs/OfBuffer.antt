@@ -1,0 +1,110 @@
+-- Decoding and encoding a fetch at a start, by what the code tests. Assumes nothing.
+use mathlib.Core.Path.{_≡_, sym, ap, _∙_}
+use mathlib.Core.Bool.{Bool, true, false, not, cond}
+use mathlib.Core.List.{List, [], _∷_, _++_}
+use Prim.Native.Nat.{ℕ, _+_, _-_, _≤_, _<_}
+use native.Mathlib.Omega.{arith}
+use lib.ListN.{length, getD, take, drop, take-append-drop}
+use lib.Seq.{sets}
+use borrow.Author.Tests.{le-leb, lt-leb, not-true, not-false}
+use borrow.Rule.Slice.PartMut.{putMid}
+use Rattle.laws.proofs.OfLists.{to-the-end}
+use Rattle.units.specs.declared.Words.{Words}
+use Rattle.opcodes.specs.declared.cf.FetchKind.{FetchKind}
+use Rattle.microcode.specs.declared.Encoded.{Encoded}
+use Rattle.microcode.specs.declared.Encoded.the-variants.{NoRecord, NoRoom, Done}
+use Rattle.microcode.proofs.OfCodec.{back-again, stored-at, part-fits}
+use Rattle.fetch_codec.specs.declared.Fetch.{Fetch}
+use Rattle.fetch_codec.specs.declared.Clause.{Clause}
+use Rattle.fetch_codec.specs.declared.FetchDecoded.{FetchDecoded}
+use Rattle.fetch_codec.specs.declared.FetchDecoded.the-variants.{Outside}
+use Rattle.fetch_codec.specs.declared.words.FetchWords.{FetchWords}
+use Rattle.fetch_codec.specs.Fetch.{kindOf, wordsOf}
+use Rattle.fetch_codec.specs.Buffer.{room, fourOf, decodeOf, writeAnswer, writeWords, encodeAnswer, encodeWords}
+use Rattle.fetch_codec.specs.Code.{putAnswer, putWords}
+
+roomy : (l : List ℕ) (start : ℕ) → start + 4 ≤ length l → room l start ≡ true
+unfolding room
+roomy l start h = le-leb (start + 4) (length l) h
+
+cramped : (l : List ℕ) (start : ℕ) → length l < start + 4 → room l start ≡ false
+unfolding room
+cramped l start h = lt-leb (start + 4) (length l) h
+
+-- ---- decoding
+
+module _ (clause : Clause) (l : List ℕ) (start : Words) where
+  pub decode-short : length l < start .0 + 4 → Outside ≡ decodeOf clause l start
+  unfolding decodeOf
+  decode-short h = rw (cramped l (start .0) h)
+
+  pub decode-four : (kind : FetchKind) (d : FetchDecoded) → start .0 + 4 ≤ length l → kind ≡ kindOf clause
+      → d ≡ fourOf kind (getD l (start .0) 0) (getD l (start .0 + 1) 0) (getD l (start .0 + 2) 0) (getD l (start .0 + 3) 0)
+      → d ≡ decodeOf clause l start
+  unfolding decodeOf
+  decode-four kind d h e p =
+      rw (roomy l (start .0) h)
+      (p ∙ ap (λ (k : FetchKind). fourOf k (getD l (start .0) 0) (getD l (start .0 + 1) 0) (getD l (start .0 + 2) 0) (getD l (start .0 + 3) 0)) e)
+
+-- ---- encoding
+
+-- four words at the beginning of a part
+module _ (w0 w1 w2 : ℕ) (l : List ℕ) where
+  pub put-short : length l < 4 → (NoRoom ≡ putAnswer l) × (l ≡ putWords w0 w1 w2 l)
+  unfolding putAnswer putWords
+  put-short h = (rw (cramped l 0 h), rw (cramped l 0 h))
+
+  pub put-done : (m : List ℕ) → 4 ≤ length l → m ≡ sets l 0 (w0 ∷ w1 ∷ w2 ∷ 0 ∷ []) → (Done ≡ putAnswer l) × (m ≡ putWords w0 w1 w2 l)
+  unfolding putAnswer putWords
+  put-done m h e = (rw (roomy l 0 h), rw (roomy l 0 h) e)
+
+module _ (a : ℕ) (l : List ℕ) (h : a ≤ length l) where
+  part-room : room (drop a l) 0 ≡ room l a
+  unfolding room
+  part-room = part-fits 4 a l h
+
+  part-answer : putAnswer (drop a l) ≡ cond (room l a) Done NoRoom
+  unfolding putAnswer
+  part-answer = rw part-room
+
+  part-words : (w0 w1 w2 : ℕ) → take a l ++ putWords w0 w1 w2 (drop a l) ≡ cond (room l a) (sets l a (w0 ∷ w1 ∷ w2 ∷ 0 ∷ [])) l
+  unfolding putWords
+  part-words w0 w1 w2 = rw part-room (by (room l a))
+    where
+      vs : List ℕ
+      vs = w0 ∷ w1 ∷ w2 ∷ 0 ∷ []
+
+      by : (t : Bool) → take a l ++ cond t (sets (drop a l) 0 vs) (drop a l) ≡ cond t (sets l a vs) l
+      by true = stored-at a l vs
+      by false = take-append-drop a l
+
+module _ (w : FetchWords) (l : List ℕ) (start : Words) where
+  pub write-refused : not (w .«is_record») ≡ true → (NoRecord ≡ writeAnswer w l start) × (l ≡ writeWords w l start)
+  unfolding writeAnswer writeWords
+  write-refused h = let k = not-true (w .«is_record») h in (rw k, rw k)
+
+  pub write-beyond : not (w .«is_record») ≡ false → length l < start .0 → (NoRoom ≡ writeAnswer w l start) × (l ≡ writeWords w l start)
+  unfolding writeAnswer writeWords
+  write-beyond h b =
+      let k = not-false (w .«is_record») h in
+      let none : room l (start .0) ≡ false = cramped l (start .0) (omega arith) in
+      (rw (k, none), rw (k, none))
+
+  pub write-put : (r : Encoded) (p : List ℕ) → not (w .«is_record») ≡ false → start .0 ≤ length l → r ≡ putAnswer (take (length l - start .0) (drop (start .0) l)) → p ≡ putWords (w .word0) (w .word1) (w .word2) (take (length l - start .0) (drop (start .0) l)) → (r ≡ writeAnswer w l start) × (putMid (start .0) (length l - start .0) l p ≡ writeWords w l start)
+  unfolding writeAnswer writeWords
+  write-put r p h b x y =
+      let at = start .0 in
+      let k = not-false (w .«is_record») h in
+      let part = to-the-end at l in (
+        rw k (x ∙ ap putAnswer part ∙ part-answer at l b),
+        rw k
+            (back-again at l p
+            ∙ ap (λ (q : List ℕ). take at l ++ q) (y ∙ ap (putWords (w .word0) (w .word1) (w .word2)) part)
+            ∙ part-words at l b (w .word0) (w .word1) (w .word2)),
+      )
+
+-- what is written of a fetch's words is what is encoded of the fetch
+pub written-fetch : (f : Fetch) (l : List ℕ) (start : Words) {w : FetchWords} {r : Encoded} {p : List ℕ} → w ≡ wordsOf f
+    → (r ≡ writeAnswer w l start) × (p ≡ writeWords w l start) → (r ≡ encodeAnswer f l start) × (p ≡ encodeWords f l start)
+written-fetch f l start e h =
+    (h .0 ∙ ap (λ (w : FetchWords). writeAnswer w l start) e, h .1 ∙ ap (λ (w : FetchWords). writeWords w l start) e)
