@@ -18,7 +18,7 @@ feedless-joined (x ∷ a) b p q =
     let w = both (not (eqb x lineFeed)) (feedless a) p in
     both-hold (not (eqb x lineFeed)) (feedless (a ++ b)) (w .0) (feedless-joined a b (w .1) q)
 
-feedless-digits : (t : List ℕ) → allDigits t ≡ true → feedless t ≡ true
+pub feedless-digits : (t : List ℕ) → allDigits t ≡ true → feedless t ≡ true
 unfolding allDigits
 feedless-digits [] h = refl
 feedless-digits (b ∷ t) h =

@@ -44,7 +44,7 @@ too-short (k ∷ ks) [] h = refl
 too-short (k ∷ ks) (b ∷ t) h = never (eqb b k) (beginsWith ks t) (too-short ks t (omega arith))
 
 -- a text that begins with the key is no shorter
-begins-length : (key t : List ℕ) → beginsWith key t ≡ true → length key ≤ length t
+pub begins-length : (key t : List ℕ) → beginsWith key t ≡ true → length key ≤ length t
 unfolding beginsWith
 begins-length [] t e = omega arith
 begins-length (k ∷ ks) [] e = absurd (false≢true e)

@@ -1,19 +1,20 @@
 -- Lines: found one byte after the other, and one after the other from the start. Assumes nothing.
 use mathlib.Core.Path.{_≡_, refl, ap, sym, _∙_}
-use mathlib.Core.Bool.{Bool, true, false, cond}
+use mathlib.Core.Bool.{Bool, true, false, cond, not}
 use mathlib.Core.List.{List, [], _∷_}
 use mathlib.Core.Option.{Option, none, some, Option·map}
 use Prim.Native.Nat.{ℕ, zero, suc, _+_, _-_, _≤_, _<_}
 use native.Mathlib.Nat.{zero-add}
 use native.Mathlib.Numerals.{add-one}
 use native.Mathlib.Omega.{arith}
-use borrow.Author.Tests.{eq-eqb, ne-eqb, eqb-true, eqb-false}
+use borrow.Author.Tests.{eq-eqb, ne-eqb, eqb-true, eqb-false, not-true}
 use lib.Dec.{eqb}
 use lib.ListN.{length, getD, take, drop, length-drop}
 use lib.Seq.{drop-cons, drop-drop, length-take-le, getD-take}
-use Rattle.laws.proofs.OfTests.{by-test}
+use Rattle.laws.proofs.OfTests.{both, by-test}
 use Rattle.card.specs.Text.{found, lineFeed, firstLine, behindFirst, behind, linesLength, lineOf, valueOf, valueAt}
-use Rattle.card.specs.Code.{nextLine}
+use Rattle.ascii.specs.Code.{feedless}
+use Rattle.card.specs.Code.{nextLine, lineEnd, lineIn}
 
 -- the bytes from a place to the end, as a part of them that the code takes
 abbrev pub part : List ℕ → ℕ → List ℕ
@@ -21,12 +22,7 @@ part l n = take (length l - n) (drop n l)
 
 -- ---- the end of the first line
 
--- how many bytes stand before the first line feed; all where there is none
-unfoldable pub lineEnd : List ℕ → ℕ
-lineEnd [] = 0
-lineEnd (b ∷ t) = cond (eqb b lineFeed) 0 (suc (lineEnd t))
-
-end-within : (t : List ℕ) → lineEnd t ≤ length t
+pub end-within : (t : List ℕ) → lineEnd t ≤ length t
 unfolding lineEnd
 end-within [] = omega arith
 end-within (b ∷ t) = by (eqb b lineFeed) (end-within t)
@@ -46,9 +42,13 @@ pub passed-more : (t : List ℕ) (i : ℕ) → i < length t → (getD t i 0 ≡ 
 unfolding lineEnd
 passed-more t i h e w = w ∙ rw (drop-cons t i 0, ne-eqb (getD t i 0) lineFeed e, add-one) (omega arith)
 
-passed-here : (t : List ℕ) (i : ℕ) → i < length t → getD t i 0 ≡ lineFeed → Passed t i → i ≡ lineEnd t
+-- so the line ends there where a line feed or nothing follows
+pub passed-here : (t : List ℕ) (i : ℕ) → i < length t → getD t i 0 ≡ lineFeed → Passed t i → i ≡ lineEnd t
 unfolding lineEnd
 passed-here t i h e w = sym (w ∙ rw (drop-cons t i 0, eq-eqb (getD t i 0) lineFeed e) (omega arith))
+
+pub passed-all : (t : List ℕ) (i : ℕ) → length t ≤ i → Passed t i → i ≡ lineEnd t
+passed-all t i h w = omega (arith, w, end-within t)
 
 -- ---- the first line, and what stands behind it
 
@@ -63,9 +63,6 @@ first-none (b ∷ t) e = by (eqb b lineFeed) e (first-none t)
     by false e h = ap (Option·map (λ (l : List ℕ). b ∷ l)) (h (omega arith))
 
 -- a line feed: the line is what stands before it
-abbrev pub lineIn : List ℕ → List ℕ
-lineIn t = take (lineEnd t) t
-
 first-some : (t : List ℕ) → (lineEnd t ≡ length t → ⊥) → firstLine t ≡ some (lineIn t)
 unfolding lineEnd firstLine
 first-some [] e = absurd (e refl)
@@ -83,10 +80,11 @@ line-refused t f e =
     (λ h. ap (λ o. found o f) (first-none t (eqb-true (lineEnd t) (length t) h)))
     (λ h. ap (λ o. found o f) (first-some t (eqb-false (lineEnd t) (length t) h)) ∙ e)
 
-pub line-missing : {A : Type 0} (t : List ℕ) (i : ℕ) (f : List ℕ → Option A) → length t ≤ i → Passed t i → found (firstLine t) f ≡ none
-line-missing t i f h w =
-    let e : lineEnd t ≡ length t = omega (arith, end-within t) in
-    ap (λ o. found o f) (first-none t e)
+pub line-missing : {A : Type 0} (t : List ℕ) (f : List ℕ → Option A) → lineEnd t ≡ length t → found (firstLine t) f ≡ none
+line-missing t f e = ap (λ o. found o f) (first-none t e)
+
+pub line-found : {A : Type 0} (t : List ℕ) (f : List ℕ → Option A) → (lineEnd t ≡ length t → ⊥) → found (firstLine t) f ≡ f (lineIn t)
+line-found t f e = ap (λ o. found o f) (first-some t e)
 
 behind-end : (t : List ℕ) → behindFirst t ≡ drop (lineEnd t + 1) t
 unfolding lineEnd behindFirst
@@ -100,7 +98,7 @@ behind-end (b ∷ t) = by (eqb b lineFeed) (behind-end t)
 pub behind-within : (t : List ℕ) → length (behindFirst t) ≤ length t
 behind-within t = omega (arith, ap length (behind-end t), length-drop (lineEnd t + 1) t)
 
--- a byte before which no line feed stands: one of the line, or the line feed that ends it
+-- a byte before which no line feed stands, and that is none itself, is one of the line
 module _ (t : List ℕ) (i : ℕ) (h : i < length t) (w : Passed t i) where
   pub byte-inside : (getD t i 0 ≡ lineFeed → ⊥) → i < length (lineIn t)
   byte-inside e = omega (arith, passed-more t i h e w, length-take-le (lineEnd t) t (end-within t))
@@ -108,18 +106,18 @@ module _ (t : List ℕ) (i : ℕ) (h : i < length t) (w : Passed t i) where
   pub byte-same : (getD t i 0 ≡ lineFeed → ⊥) → getD (lineIn t) i 0 ≡ getD t i 0
   byte-same e = getD-take (lineEnd t) t i 0 (omega (arith, passed-more t i h e w))
 
-  pub feed-line : getD t i 0 ≡ lineFeed → take i t ≡ lineIn t
-  feed-line e = ap (λ n. take n t) (passed-here t i h e w)
+-- the line feed that ends the line is its last byte
+pub line-next : (t : List ℕ) → (lineEnd t ≡ length t → ⊥) → lineEnd t + 1 ≡ linesLength 1 t
+unfolding linesLength behind
+line-next t e = omega (arith, end-within t, ap length (behind-end t), length-drop (lineEnd t + 1) t, e)
 
-  pub feed-length : getD t i 0 ≡ lineFeed → length (lineIn t) ≡ i
-  feed-length e = length-take-le (lineEnd t) t (end-within t) ∙ sym (passed-here t i h e w)
-
-  pub feed-found : {A : Type 0} (f : List ℕ → Option A) → getD t i 0 ≡ lineFeed → found (firstLine t) f ≡ f (lineIn t)
-  feed-found f e = ap (λ o. found o f) (first-some t (λ p. (omega (arith, passed-here t i h e w))))
-
-  pub feed-next : getD t i 0 ≡ lineFeed → i + 1 ≡ linesLength 1 t
-  unfolding linesLength behind
-  feed-next e = omega (arith, passed-here t i h e w, ap length (behind-end t), length-drop (lineEnd t + 1) t)
+-- bytes without a line feed are all of the line
+pub feedless-end : (t : List ℕ) → feedless t ≡ true → lineEnd t ≡ length t
+unfolding lineEnd
+feedless-end [] h = refl
+feedless-end (b ∷ t) h =
+    let w = both (not (eqb b lineFeed)) (feedless t) h in
+    rw (not-true (eqb b lineFeed) (w .0)) (ap suc (feedless-end t (w .1)))
 
 -- ---- one line after the other
 

@@ -1,4 +1,4 @@
--- Decimal numbers: read one digit after the other up to a line feed, and refused as soon as they are above a limit. Assumes nothing.
+-- Decimal numbers: read one digit after the other up to a line feed or to the end, and refused as soon as they are above a limit. Assumes nothing.
 use mathlib.Core.Path.{_≡_, refl, ap, sym, _∙_}
 use mathlib.Core.Bool.{Bool, true, false, cond, not, and-false, and-true}
 use mathlib.Core.List.{List, [], _∷_}
@@ -7,15 +7,20 @@ use Prim.Native.Nat.{ℕ, zero, suc, _+_, _-_, _*_, _^_, _≤_, _<_}
 use native.Mathlib.Nat.{zero-add, add-zero, zero-mul, mul-one, add-mul, mul-assoc, add-assoc, pow-succ', one-le-pow, mul-le-mul-left}
 use native.Mathlib.Numerals.{add-one}
 use native.Mathlib.Omega.{arith}
-use borrow.Author.Tests.{le-leb, lt-leb}
+use borrow.Author.Tests.{le-leb, lt-leb, eqb-true, eqb-false}
 use lib.Dec.{eqb}
 use lib.ListN.{length, getD, take, drop, drop-of-length-le}
-use lib.Seq.{drop-cons}
+use lib.Seq.{drop-cons, take-all, length-take-le}
+use Rattle.laws.proofs.OfTests.{by-test}
 use Rattle.laws.proofs.OfLists.{to-the-end}
-use Rattle.card.specs.Text.{found, lineFeed, firstLine, linesLength, isDigit, allDigits, isDecimal, digitsValue, numberOf, numberIn, from_to_}
-use Rattle.card.specs.Code.{nextLine, wellFormed, figureRead}
+use Rattle.ascii.proofs.OfFeeds.{feedless-digits}
+use Rattle.card.specs.Text.{found, lineFeed, firstLine, linesLength, isDigit, allDigits, isDecimal, digitsValue, numberOf, numberIn, from_to_, numberRead}
+use Rattle.card.specs.Code.{nextLine, lineEnd, lineIn, Digits, wellFormed, figureRead}
+use Rattle.card.specs.declared.Number.the-variants as number
+use Rattle.card.specs.declared.text.Figure.{Figure}
 use Rattle.card.specs.declared.text.Figure.the-variants.{Is, Wrong}
-use Rattle.card.proofs.OfLines.{part, Passed, passed-none, passed-more, lineIn, line-refused, line-missing, byte-inside, byte-same, feed-line, feed-length, feed-found, feed-next}
+use Rattle.card.proofs.OfLines.{part, end-within, Passed, passed-none, passed-more, line-refused, line-missing, line-found, line-next, feedless-end, byte-inside, byte-same}
+use Rattle.card.proofs.OfRows.{figures-told, answer-is, answer-wrong}
 
 -- ---- what digits are
 
@@ -141,58 +146,105 @@ module _ (t : List ℕ) (n i : ℕ) (w : Reading t n i) where
           counted = rw (← same) (counted-more (lineIn t) n i inside (w .counted) (omega (arith, same)) (omega (arith, same)));
         }
 
-    not-digit : allDigits (lineIn t) ≡ false → (low high : ℕ) → found (firstLine t) (numberIn (from low to high)) ≡ none
-    not-digit d low high = line-refused t (numberIn (from low to high)) (refused (lineIn t) (from low to high) (not-digits (lineIn t) d))
+    not-digit : allDigits (lineIn t) ≡ false → (low high : ℕ) → numberIn (from low to high) (lineIn t) ≡ none
+    not-digit d low high = refused (lineIn t) (from low to high) (not-digits (lineIn t) d)
 
-    pub reading-low : (low high : ℕ) → getD t i 0 < 48 → found (firstLine t) (numberIn (from low to high)) ≡ none
+    pub reading-low : (low high : ℕ) → getD t i 0 < 48 → numberIn (from low to high) (lineIn t) ≡ none
     reading-low low high l = not-digit (counted-low (lineIn t) n i inside (w .counted) (omega (arith, same))) low high
 
-    pub reading-high : (low high : ℕ) → 57 < getD t i 0 → found (firstLine t) (numberIn (from low to high)) ≡ none
+    pub reading-high : (low high : ℕ) → 57 < getD t i 0 → numberIn (from low to high) (lineIn t) ≡ none
     reading-high low high l = not-digit (counted-high (lineIn t) n i inside (w .counted) (omega (arith, same))) low high
 
-  -- the line feed ends the line
-  module _ (h : i < length t) (e : getD t i 0 ≡ lineFeed) where
-    all-read : (allDigits (lineIn t) ≡ true) × (digitsValue (lineIn t) ≡ n)
-    all-read = counted-all (lineIn t) n i (omega (arith, feed-length t i h (w .passed) e)) (w .counted)
+  pub reading-over : (low high : ℕ) → high < n → numberIn (from low to high) (lineIn t) ≡ none
+  reading-over low high l = counted-over (lineIn t) n i low high l (w .counted)
 
-    formed : isDecimal (lineIn t) ≡ wellFormed (take i t)
-    formed = all-formed (lineIn t) (all-read .0) ∙ ap wellFormed (sym (feed-line t i h (w .passed) e))
+  -- the line ends
+  pub reading-end : i ≡ lineEnd t → Digits t i n
+  reading-end e =
+      let line : take i t ≡ lineIn t = ap (λ k. take k t) e in
+      let short : length (lineIn t) ≤ i = omega (arith, length-take-le (lineEnd t) t (end-within t)) in
+      let all = counted-all (lineIn t) n i short (w .counted) in
+      record { within = omega (arith, end-within t); digits = ap allDigits line ∙ all .0; value = ap digitsValue line ∙ all .1 }
 
-    pub reading-under : (low high : ℕ) → n < low → found (firstLine t) (numberIn (from low to high)) ≡ none
-    reading-under low high l =
-        line-refused t (numberIn (from low to high)) (not-allowed (lineIn t) (from low to high) (rw (all-read .1, lt-leb low n l)))
+-- what the code reads of the digits is the number of the line
+pub ended-there : (t : List ℕ) (i : ℕ) (allowed : ℕ → Bool) {r : Figure} → i ≡ lineEnd t → r ≡ figureRead (numberIn allowed (take i t)) i
+    → r ≡ figureRead (numberIn allowed (lineIn t)) (lineEnd t)
+ended-there t i allowed e p = p ∙ ap (λ k. figureRead (numberIn allowed (take k t)) k) e
 
-    pub reading-malformed : (low high : ℕ) → wellFormed (take i t) ≡ false → found (firstLine t) (numberIn (from low to high)) ≡ none
-    reading-malformed low high f = line-refused t (numberIn (from low to high)) (refused (lineIn t) (from low to high) (formed ∙ f))
+-- ---- the number that digits are
 
-    pub reading-right : (low high : ℕ) → wellFormed (take i t) ≡ true → low ≤ n → n ≤ high
-        → found (firstLine t) (numberIn (from low to high)) ≡ some n
-    unfolding numberIn numberOf
-    reading-right low high f l m =
-        feed-found t i h (w .passed) (numberIn (from low to high)) e
-        ∙ rw (formed ∙ f, all-read .1, le-leb low n l, le-leb n high m)
+module _ (t : List ℕ) (count n low high : ℕ) (d : Digits t count n) where
+  formed : isDecimal (take count t) ≡ wellFormed (take count t)
+  formed = all-formed (take count t) (d .digits)
 
-    pub reading-next : i + 1 ≡ linesLength 1 t
-    reading-next = feed-next t i h (w .passed) e
+  pub digits-under : n < low → numberIn (from low to high) (take count t) ≡ none
+  digits-under l = not-allowed (take count t) (from low to high) (rw (d .value, lt-leb low n l))
 
-  pub reading-over : (low high : ℕ) → high < n → found (firstLine t) (numberIn (from low to high)) ≡ none
-  reading-over low high l = line-refused t (numberIn (from low to high)) (counted-over (lineIn t) n i low high l (w .counted))
+  pub digits-malformed : wellFormed (take count t) ≡ false → numberIn (from low to high) (take count t) ≡ none
+  digits-malformed f = refused (take count t) (from low to high) (formed ∙ f)
 
-  pub reading-end : (low high : ℕ) → length t ≤ i → found (firstLine t) (numberIn (from low to high)) ≡ none
-  reading-end low high h = line-missing t i (numberIn (from low to high)) h (w .passed)
+  pub digits-right : wellFormed (take count t) ≡ true → low ≤ n → n ≤ high → numberIn (from low to high) (take count t) ≡ some n
+  unfolding numberIn numberOf
+  digits-right f l m = rw (formed ∙ f, d .value, le-leb low n l, le-leb n high m)
 
--- ---- the same at a place of the bytes
+-- ---- the number that a whole text is: a line feed is no digit
 
-module _ (s : List ℕ) (start low high : ℕ) where
-  pub wrong : found (firstLine (part s start)) (numberIn (from low to high)) ≡ none
-      → Wrong ≡ figureRead (found (firstLine (drop start s)) (numberIn (from low to high))) (nextLine s start)
+feed-inside : (t : List ℕ) (allowed : ℕ → Bool) → (lineEnd t ≡ length t → ⊥) → numberIn allowed t ≡ none
+feed-inside t allowed e =
+    by-test (allDigits t) (λ d. absurd (e (feedless-end t (feedless-digits t d)))) (λ d. refused t allowed (not-digits t d))
+
+whole-line : (t : List ℕ) → lineEnd t ≡ length t → lineIn t ≡ t
+whole-line t e = take-all (lineEnd t) t (omega arith)
+
+module _ (t : List ℕ) (allowed : ℕ → Bool) {r : Figure} (p : r ≡ figureRead (numberIn allowed (lineIn t)) (lineEnd t)) where
+  pub whole-refused : r ≡ Wrong → number.Wrong ≡ numberRead (numberIn allowed t)
+  whole-refused q =
+      let none-there : numberIn allowed (lineIn t) ≡ none = answer-wrong figures-told (numberIn allowed (lineIn t)) (lineEnd t) p q in
+      by-test (eqb (lineEnd t) (length t))
+      (λ h. rw (sym (ap (numberIn allowed) (whole-line t (eqb-true (lineEnd t) (length t) h))) ∙ none-there))
+      (λ h. rw (feed-inside t allowed (eqb-false (lineEnd t) (length t) h)))
+
+  module _ {n count : ℕ} (q : r ≡ Is n count) where
+    there : (numberIn allowed (lineIn t) ≡ some n) × (count ≡ lineEnd t)
+    there = answer-is figures-told (numberIn allowed (lineIn t)) p q
+
+    pub whole-is : count ≡ length t → number.Is n ≡ numberRead (numberIn allowed t)
+    whole-is h = rw (sym (ap (numberIn allowed) (whole-line t (sym (there .1) ∙ h))) ∙ there .0)
+
+    pub whole-longer : (count ≡ length t → ⊥) → number.Wrong ≡ numberRead (numberIn allowed t)
+    whole-longer h = rw (feed-inside t allowed (λ e. h (there .1 ∙ e)))
+
+-- ---- the number in a line that starts at a place of the bytes
+
+module _ (s : List ℕ) (start : ℕ) (allowed : ℕ → Bool) where
+  wrong : found (firstLine (part s start)) (numberIn allowed) ≡ none
+      → Wrong ≡ figureRead (found (firstLine (drop start s)) (numberIn allowed)) (nextLine s start)
   wrong e =
-      let f = ap (λ t. found (firstLine t) (numberIn (from low to high))) (sym (to-the-end start s)) ∙ e in
+      let f = ap (λ t. found (firstLine t) (numberIn allowed)) (sym (to-the-end start s)) ∙ e in
       sym (ap (λ o. figureRead o (nextLine s start)) f)
 
-  pub right : {n m : ℕ} → found (firstLine (part s start)) (numberIn (from low to high)) ≡ some n → m ≡ start + linesLength 1 (part s start)
-      → Is n m ≡ figureRead (found (firstLine (drop start s)) (numberIn (from low to high))) (nextLine s start)
+  right : {n m : ℕ} → found (firstLine (part s start)) (numberIn allowed) ≡ some n → m ≡ start + linesLength 1 (part s start)
+      → Is n m ≡ figureRead (found (firstLine (drop start s)) (numberIn allowed)) (nextLine s start)
   right {n} {m} e l =
       ap (λ k. Is n k) l
       ∙ sym (ap (λ o. figureRead o (start + linesLength 1 (part s start))) e)
-      ∙ ap (λ t. figureRead (found (firstLine t) (numberIn (from low to high))) (start + linesLength 1 t)) (to-the-end start s)
+      ∙ ap (λ t. figureRead (found (firstLine t) (numberIn allowed)) (start + linesLength 1 t)) (to-the-end start s)
+
+  module _ {r : Figure} (p : r ≡ figureRead (numberIn allowed (lineIn (part s start))) (lineEnd (part s start))) where
+    pub line-wrong : r ≡ Wrong → Wrong ≡ figureRead (found (firstLine (drop start s)) (numberIn allowed)) (nextLine s start)
+    line-wrong q =
+        wrong (line-refused (part s start) (numberIn allowed)
+        (answer-wrong figures-told (numberIn allowed (lineIn (part s start))) (lineEnd (part s start)) p q))
+
+    module _ {n count : ℕ} (q : r ≡ Is n count) where
+      in-line : (numberIn allowed (lineIn (part s start)) ≡ some n) × (count ≡ lineEnd (part s start))
+      in-line = answer-is figures-told (numberIn allowed (lineIn (part s start))) p q
+
+      pub line-unended : length (part s start) ≤ count → Wrong ≡ figureRead (found (firstLine (drop start s)) (numberIn allowed)) (nextLine s start)
+      line-unended h = wrong (line-missing (part s start) (numberIn allowed) (omega (arith, in-line .1, end-within (part s start))))
+
+      pub line-right : count < length (part s start) → Is n (start + count + 1) ≡ figureRead (found (firstLine (drop start s)) (numberIn allowed)) (nextLine s start)
+      line-right h =
+          let f : lineEnd (part s start) ≡ length (part s start) → ⊥ = λ e. (omega (arith, in-line .1)) in
+          right (line-found (part s start) (numberIn allowed) f ∙ in-line .0)
+          (omega (arith, line-next (part s start) f, in-line .1))

@@ -60,7 +60,7 @@ line-text (b ∷ t) l h = by (eqb b lineFeed) refl h (line-text t)
 
 -- ---- a key and its value
 
-begins-own : (key v : List ℕ) → beginsWith key (key ++ v) ≡ true
+pub begins-own : (key v : List ℕ) → beginsWith key (key ++ v) ≡ true
 unfolding beginsWith
 begins-own [] v = refl
 begins-own (k ∷ key) v = both-hold (eqb k k) (beginsWith key (key ++ v)) (eq-eqb k k refl) (begins-own key v)
@@ -151,7 +151,7 @@ build-feedless Debug = refl
 allowed-text : (allowed : ℕ → Bool) (v : List ℕ) (n : ℕ) → numberIn allowed v ≡ some n → v ≡ decimal n
 allowed-text allowed v n h = number-text v n (number-some allowed v h .0)
 
-allowed-read : (allowed : ℕ → Bool) (n : ℕ) → allowed n ≡ true → numberIn allowed (decimal n) ≡ some n
+pub allowed-read : (allowed : ℕ → Bool) (n : ℕ) → allowed n ≡ true → numberIn allowed (decimal n) ≡ some n
 unfolding numberIn
 allowed-read allowed n h = rw (decimal-read n, h)
 

@@ -1,13 +1,14 @@
--- What the private functions answer: an enum of the code for each test and each Option of the definitions. The public contracts need
--- none of it.
-use Prim.Native.Nat.{ℕ, _+_}
+-- What the private functions ask of each other and answer: an enum of the code for each test and each Option of the definitions. The
+-- public contracts need none of it.
+use Prim.Native.Nat.{ℕ, suc, _+_, _≤_}
 use Prim.Native.Char.{code}
-use mathlib.Core.Bool.{Bool, true, false, not}
+use mathlib.Core.Path.{_≡_}
+use mathlib.Core.Bool.{Bool, true, false, cond, not}
 use mathlib.Core.List.{List, [], _∷_}
 use mathlib.Core.Option.{Option, none, some}
 use lib.Dec.{eqb}
-use lib.ListN.{drop}
-use Rattle.card.specs.Text.{linesLength}
+use lib.ListN.{length, take, drop}
+use Rattle.card.specs.Text.{lineFeed, allDigits, digitsValue, linesLength}
 use Rattle.card.specs.declared.Kind.{Kind}
 use Rattle.card.specs.declared.Build.{Build}
 use Rattle.card.specs.declared.lines.KindRead.{KindRead}
@@ -22,6 +23,21 @@ use Rattle.card.specs.declared.text.Figure.the-variants as figure
 -- where the line behind the one that starts at a place starts
 abbrev pub nextLine : List ℕ → ℕ → ℕ
 nextLine s start = start + linesLength 1 (drop start s)
+
+-- how many bytes stand before the first line feed; all where there is none
+unfoldable pub lineEnd : List ℕ → ℕ
+lineEnd [] = 0
+lineEnd (b ∷ t) = cond (eqb b lineFeed) 0 (suc (lineEnd t))
+
+-- those bytes
+abbrev pub lineIn : List ℕ → List ℕ
+lineIn t = take (lineEnd t) t
+
+-- the first `count` bytes are digits, and stand for n
+pub record Digits (t : List ℕ) (count n : ℕ) : Type 0 where
+  pub within : count ≤ length t
+  pub digits : allDigits (take count t) ≡ true
+  pub value : digitsValue (take count t) ≡ n
 
 -- what digits are that are a number: one, or several of which the first is not 0
 abbrev pub wellFormed : List ℕ → Bool

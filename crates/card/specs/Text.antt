@@ -11,6 +11,8 @@ use lib.ListN.{length, drop}
 pub use Rattle.ascii.specs.Ascii.{ascii as text, lineFeed}
 pub use Rattle.ascii.specs.Decimal.{isDigit}
 unfoldable pub use Rattle.ascii.specs.Decimal.{allDigits, digitsValue}
+use Rattle.card.specs.declared.Number.{Number}
+use Rattle.card.specs.declared.Number.the-variants.{Is, Wrong}
 
 -- what is found is handed on; nothing found is nothing found
 abbrev pub found : {A B : Type 0} → Option A → (A → Option B) → Option B
@@ -90,3 +92,12 @@ from_to_ low high n = leb low n && leb n high
 -- the number that a text is, where the number is an allowed one
 unfoldable pub numberIn : (ℕ → Bool) → List ℕ → Option ℕ
 numberIn allowed t = found (numberOf t) (λ n. cond (allowed n) (some n) none)
+
+-- any number of 32 bits
+abbrev pub of32Bits : ℕ → Bool
+of32Bits = from 0 to 4294967295
+
+-- the answer of `read_number`, an enum of the code for an Option
+abbrev pub numberRead : Option ℕ → Number
+numberRead none = Wrong
+numberRead (some n) = Is n

@@ -2,6 +2,8 @@
 //
 // The table of its lines stands once in each layer: as a definition in specs/Card.antt, as functions in rows.rt, with the limits in
 // limits.rt. A line more is a row more in each.
+//
+// The keys and numbers of other texts NAME=number are read by the same functions: `begins_with` and `read_number`.
 ghost use mathlib.Core.Path.{_≡_};
 ghost use Rattle.card.specs.Card.{cardOf};
 ghost use Rattle.card.specs.Made.{testOf};
@@ -13,6 +15,8 @@ mod text;
 use lines::BuildRead;
 use lines::KindRead;
 use text::Figure;
+pub use text::begins_with;
+pub use text::read_number;
 use units::Quadwords;
 
 // The paper's kind: ps, vs, gs.
@@ -55,6 +59,12 @@ pub enum CardRead {
 pub enum CardTest {
     InRange,
     BadLine(usize),
+}
+
+// A number of 32 bits, or that a text is none.
+pub enum Number {
+    Is(u32),
+    Wrong,
 }
 
 // How many lines a card has.

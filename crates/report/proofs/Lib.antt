@@ -5,4 +5,5 @@ pub mod OfReport
 pub mod OfRules
 pub mod OfLines
 pub mod OfExplanation
+pub mod OfSettings
 pub mod Examples

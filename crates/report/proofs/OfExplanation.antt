@@ -21,7 +21,7 @@ use Rattle.checks.specs.declared.AtFault.{AtFault}
 use Rattle.checks.specs.declared.AtFault.the-variants.{NoNumber, Number}
 use Rattle.checks.specs.declared.Explanation.{Explanation}
 use Rattle.checks.specs.Verdict.{lineOrQuadword, verdictNumber, verdictPlace, verdictSlot}
-use Rattle.report.specs.Report.{line, joined, linesOf}
+use Rattle.report.specs.Report.{line, joined, piecesOf, linesOf}
 use Rattle.report.specs.Explanation.{ruleWord, foundText, limitText, linesFor, explanationLines, explanationBytes}
 use Rattle.report.specs.Code.{ruleLine}
 use Rattle.report.proofs.OfReport.{line-first, number-line-length}
@@ -88,7 +88,7 @@ feedless-limit (Number found limit) = feedless-decimal limit
 
 -- taken apart at its line feeds an explanation is its lines
 pub lines-of-explanation : (x : Explanation) → linesOf (explanationBytes x) ≡ explanationLines x
-unfolding explanationBytes explanationLines linesOf
+unfolding explanationBytes explanationLines piecesOf
 lines-of-explanation x = by (x .verdict) (x .fault)
   where
     by : (v : Verdict) (fault : AtFault) → linesOf (joined (linesFor v fault)) ≡ linesFor v fault

@@ -23,13 +23,13 @@ use Rattle.checks.specs.declared.Verdict.the-variants.{Accepted, Refused}
 use Rattle.checks.specs.Verdict.{isAccepted, verdictNumber, verdictPlace, verdictSlot}
 use Rattle.report.specs.declared.ReportBuild.{ReportBuild}
 use Rattle.report.specs.declared.ReportBuild.the-variants.{Unknown, Production, Debug}
-use Rattle.report.specs.Report.{line, shownBuild, buildText, released, yesOrNo, reportLines, joined, reportBytes, beforeFirst, linesOf}
+use Rattle.report.specs.Report.{line, shownBuild, buildText, released, yesOrNo, reportLines, joined, reportBytes, beforeFirst, piecesOf, linesOf}
 
 -- ---- the bytes are those five lines and no others
 
 -- a line feed ends a line
 feed-ends : (body rest : List ℕ) → feedless body ≡ true → linesOf (body ++ (lineFeed ∷ rest)) ≡ (body ++ (lineFeed ∷ [])) ∷ linesOf rest
-unfolding linesOf
+unfolding piecesOf
 feed-ends [] rest h = refl
 feed-ends (b ∷ body) rest h =
     let w = both (not (eqb b lineFeed)) (feedless body) h in
@@ -56,7 +56,7 @@ line-first key value rest h k =
 
 -- taken apart at its line feeds the report is its five lines
 pub lines-of-report : (build : ReportBuild) (verdict : Verdict) → linesOf (reportBytes build verdict) ≡ reportLines build verdict
-unfolding reportBytes reportLines linesOf
+unfolding reportBytes reportLines piecesOf
 lines-of-report build verdict =
     line-first "build" (buildText (shownBuild build verdict)) _ refl (feedless-build (shownBuild build verdict))
     ∙ ap (λ (ls : List (List ℕ)). line "build" (buildText (shownBuild build verdict)) ∷ ls)

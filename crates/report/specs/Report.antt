@@ -55,12 +55,16 @@ reportBytes build verdict = joined (reportLines build verdict)
 
 -- ---- the bytes taken apart again: what is said of a line of the report is said of these
 
--- a byte before the first of some lines
+-- a byte before the first of some pieces
 abbrev pub beforeFirst : ℕ → List (List ℕ) → List (List ℕ)
 beforeFirst b [] = (b ∷ []) ∷ []
 beforeFirst b (l ∷ ls) = (b ∷ l) ∷ ls
 
+-- bytes taken apart into pieces, each with the byte `last` that ends it; what stands behind the last of these is a piece too
+unfoldable pub piecesOf : ℕ → List ℕ → List (List ℕ)
+piecesOf last [] = []
+piecesOf last (b ∷ bs) = cond (eqb b last) ((b ∷ []) ∷ piecesOf last bs) (beforeFirst b (piecesOf last bs))
+
 -- bytes taken apart into lines, each with the line feed that ends it
-unfoldable pub linesOf : List ℕ → List (List ℕ)
-linesOf [] = []
-linesOf (b ∷ bs) = cond (eqb b lineFeed) ((b ∷ []) ∷ linesOf bs) (beforeFirst b (linesOf bs))
+abbrev pub linesOf : List ℕ → List (List ℕ)
+linesOf bytes = piecesOf lineFeed bytes

@@ -1,8 +1,9 @@
-// The judge's report, and an explanation of its verdict: lines as bytes in a lent buffer.
+// The judge's report, an explanation of its verdict, and settings: lines as bytes in a lent buffer.
 //
-// They are made in a buffer of this crate's own first: a lent buffer that is too small stays as it was, and how many bytes a
-// report has is known only once its numbers are written.
+// A report and an explanation are made in a buffer of this crate's own first: a lent buffer that is too small stays as it was, and
+// how many bytes a report has is known only once its numbers are written.
 mod explanation;
+mod settings;
 mod text;
 
 ghost use mathlib.Core.Path.{_≡_};
@@ -13,6 +14,8 @@ ghost use Rattle.report.specs.Buffer.{writtenOf, bufferAfter};
 ghost use Rattle.report.specs.Code.{Appended};
 use checks::Verdict;
 pub use explanation::write_explanation;
+pub use settings::key_end;
+pub use settings::write_settings;
 
 // What is known of the card's build line.
 pub enum ReportBuild {

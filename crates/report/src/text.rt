@@ -21,16 +21,33 @@ pub(crate) fn put(out: &mut [u8], at: usize, bytes: &[u8]) -> usize
 }
 
 // Puts a number's line: its key with the equals sign, the number in decimal, a line feed.
-pub(crate) fn put_number(out: &mut [u8], at: usize, key: &[u8], n: usize) -> usize
-    requires { ⌜ at + length (now key) + 21 ≤ length (now out) ⌝ }
+pub(crate) fn put_line(out: &mut [u8], at: usize, key: &[u8], n: usize) -> usize
+    requires { ⌜ at + length (now key) + length (Text·decimal n) + 1 ≤ length (now out) ⌝ }
     ensures { λ r. ⌜ Appended at (now (key .entry) ++ (Text·decimal n ++ ascii "\n")) (now (out .entry)) (now (out .exit)) r ⌝ }
-    ensures { λ r. ⌜ r ≤ at + length (now (key .entry)) + 21 ⌝ }
 {
     let mut digits = [0u8; 20];
     let first = decimal(n, &mut digits);
     let at_digits = put(out, at, key);
     let at_end = put(out, at_digits, &digits[first..]);
     put(out, at_end, b"\n")
+}
+
+// The same where any number has room.
+pub(crate) fn put_number(out: &mut [u8], at: usize, key: &[u8], n: usize) -> usize
+    requires { ⌜ at + length (now key) + 21 ≤ length (now out) ⌝ }
+    ensures { λ r. ⌜ Appended at (now (key .entry) ++ (Text·decimal n ++ ascii "\n")) (now (out .entry)) (now (out .exit)) r ⌝ }
+    ensures { λ r. ⌜ r ≤ at + length (now (key .entry)) + 21 ⌝ }
+{
+    put_line(out, at, key, n)
+}
+
+// How many decimal digits a number has.
+pub(crate) fn digits_of(n: usize) -> usize
+    ensures { λ r. ⌜ (r ≡ length (Text·decimal n)) × (r ≤ 20) ⌝ }
+{
+    let mut digits = [0u8; 20];
+    let first = decimal(n, &mut digits);
+    digits.len() - first
 }
 
 // Writes a number's decimal digits to the end of `digits`, and answers where they start. The last digit comes first, so they are

@@ -14,7 +14,7 @@ abbrev μ-loop : tie.MeasureT-loop
 μ-loop text key i₀ i = length key - i
 
 returns : tie.Need-returns Inv-loop μ-loop
-returns c = too-short _ _ (c .if1 .taken)
+returns c = let a = c .before .args in too-short (a .key .now) (a .text .now) (omega arith)
 
 loop-holds : tie.Need-loop-holds Inv-loop μ-loop
 loop-holds c = search needs

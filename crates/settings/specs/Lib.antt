@@ -1,0 +1,3 @@
+-- The root of what the contracts cite.
+pub mod Setting
+pub mod ReadBack
