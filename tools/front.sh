@@ -1,6 +1,7 @@
-# shellcheck shell=sh disable=SC2154 # `here`, `name`, `thing`, `past`, and what `read_lines` sets, are the scripts'
-# What ./judge and ./explain share; ./install puts it below share/zlatomruk. Sourced where `here` is the script's folder, `name` its own name,
-# `thing` what its program writes and `past` what is done to a pack; the script has `usage`, and `read_lines`, which tests what was written.
+# shellcheck shell=sh disable=SC2154 # `here`, `name`, `calls`, `thing`, `past`, and what `read_lines` sets, are the scripts'
+# What ./judge, ./explain and ./fetch share; ./install puts it below share/zlatomruk. Sourced where `here` is the script's folder, `name` its own
+# name and `calls` its program's; the script has `usage`, and `read_lines`, which tests what was written. For `ask`, `thing` is what the program
+# writes and `past` what is done to a pack.
 trap '' PIPE # a closed pipe is then a failed write, which is told
 newline='
 '
@@ -17,10 +18,10 @@ fail() {
 # In a checkout the program is proved and built where its sources have changed; an installed one stands beside the script.
 find_program() {
     if [ -f "$here/crates.txt" ]; then
-        "$here/tools/build" --for "$name" "${name}_files" || exit 2
-        program=$here/target/bin/${name}_files
+        "$here/tools/build" --for "$name" "$calls" || exit 2
+        program=$here/target/bin/$calls
     else
-        program=$here/${name}_files
+        program=$here/$calls
     fi
     [ -x "$program" ] || fail "no program: $program"
 }
@@ -45,14 +46,17 @@ sum_of() {
     sum=${sum%% *}
 }
 
-# Calls the program on a card and a pack: what it writes is in `written`, and `read_lines` has tested it. The files' checksums are taken
-# before and behind, so that what is named is what the program has read. Where it wrote nothing, it has said why.
+# is_still SUM FILE: the checksums are taken before and behind the program, so that what is named is what it has read.
+is_still() {
+    sum_of "$2" && [ "$sum" = "$1" ]
+}
+
+# Calls the program on a card and a pack: what it writes is in `written`, and `read_lines` has tested it. Where it wrote nothing, it has said why.
 ask() {
     readable "$1" && readable "$2" || return 1
     sum_of "$1" && card_sum=$sum && sum_of "$2" && pack_sum=$sum || return 1
     written=$("$program" "$1" "$2") || { tell "the program ended early"; return 1; }
-    { sum_of "$1" && [ "$sum" = "$card_sum" ] && sum_of "$2" && [ "$sum" = "$pack_sum" ]; } ||
-        { tell "changed while it was $past: $1 or $2"; return 1; }
+    { is_still "$card_sum" "$1" && is_still "$pack_sum" "$2"; } || { tell "changed while it was $past: $1 or $2"; return 1; }
     take_apart || { [ -z "$written" ] || tell "no $thing"; return 1; }
     printf 'card %s %s\npack %s %s\n' "$card_sum" "$1" "$pack_sum" "$2" >&2
 }
@@ -67,14 +71,24 @@ take_apart() {
     read_lines "$@"
 }
 
-# The script's arguments, where they are a card and a pack or an option that both scripts have.
-one() {
+is_number() {
+    case $1 in "" | *[!0-9]* | 0?*) return 1 ;; esac
+}
+
+# The options that all scripts have, which are answered here. True if the first argument is `--`, which is to be taken off.
+ends_options() {
     case ${1-} in
     --help) usage; exit ;;
     --version) version; exit ;;
-    --) shift ;;
+    --) return 0 ;;
     -*) usage >&2; exit 2 ;;
     esac
+    return 1
+}
+
+# The script's arguments, where they are a card and a pack.
+one() {
+    ! ends_options "$@" || shift
     [ $# -eq 2 ] || { usage >&2; exit 2; }
     find_program
     ask "$1" "$2" || exit 2

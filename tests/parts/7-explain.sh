@@ -57,7 +57,7 @@ holds "the examples have the rules' words" cmp -s "$work/words" "$work/words_sho
 holds "docs/USING.md has the rules' words" cmp -s "$work/words" "$work/words_told"
 
 # The packs that docs/USING.md goes through, the first as a session.
-sed -n '/\$ .\/explain /,/\$ echo/s/^    \([a-z]*=.*\)/\1/p' docs/USING.md >"$work/session"
+sed -n '/^## Why a pack/,/\$ echo/s/^    \([a-z]*=.*\)/\1/p' docs/USING.md >"$work/session"
 holds "docs/USING.md: the session" cmp -s "$work/session" $refused.explain
 for name in fetch-into-a-register-not-granted jump-keeps-its-frame; do
     holds "docs/USING.md: $name" grep -qF "\`$name\`: $(paste -sd , "examples/$name.explain" | sed 's/,/, /g')." docs/USING.md

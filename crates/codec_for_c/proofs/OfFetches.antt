@@ -173,7 +173,7 @@ fetch-words-again kind l start vs small h =
     (λ s. let z : verdictNumber (encodedVerdict NoRecord) ≡ 0 = rw s at h in absurd (omega arith))
 
 -- a clause's number is one, and its own
-known-clause : (c : Clause) → (clauseNumbered (clauseNumber c) ≡ c) × (isClause (clauseNumber c) ≡ true)
+pub known-clause : (c : Clause) → (clauseNumbered (clauseNumber c) ≡ c) × (isClause (clauseNumber c) ≡ true)
 unfolding clauseNumbered isClause
 known-clause clause.Tex = (refl, refl)
 known-clause clause.Vtx = (refl, refl)

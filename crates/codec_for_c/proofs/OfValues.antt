@@ -40,7 +40,7 @@ use Rattle.codec_for_c.specs.Values.{valuesOf, written, formOf, recordOf
 -- ---- a record and its values
 
 -- values that fit their widths, one by one
-within-at : (ws vs : List ℕ) (k : ℕ) → within ws vs ≡ true → k < length ws → getD vs k 0 < 2 ^ getD ws k 0
+pub within-at : (ws vs : List ℕ) (k : ℕ) → within ws vs ≡ true → k < length ws → getD vs k 0 < 2 ^ getD ws k 0
 within-at [] vs k h l = absurd (omega arith)
 within-at (w ∷ ws) [] k h l = impossible cc
 within-at (w ∷ ws) (v ∷ vs) zero h l = ltb-true v (2 ^ w) (both (ltb v (2 ^ w)) (within ws vs) h .0)

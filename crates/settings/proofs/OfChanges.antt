@@ -25,7 +25,7 @@ line-at (key ∷ keys) [] k h l = absurd (omega arith)
 line-at (key ∷ keys) (value ∷ values) zero h l = refl
 line-at (key ∷ keys) (value ∷ values) (suc k) h l = line-at keys values k (omega arith) (omega arith)
 
-line-count : (keys : List (List ℕ)) (values : List ℕ) → length values ≤ length keys → length (settingLines keys values) ≡ length values
+pub line-count : (keys : List (List ℕ)) (values : List ℕ) → length values ≤ length keys → length (settingLines keys values) ≡ length values
 unfolding settingLines
 line-count [] [] h = refl
 line-count [] (value ∷ values) h = absurd (omega arith)

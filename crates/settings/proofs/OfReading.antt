@@ -94,6 +94,23 @@ read-back keys index n g l h = read-from 0 keys index n g l h ∙ ap (λ (i : �
 pub as-said : (keys : List (List ℕ)) (bytes : List ℕ) {r : Setting} → r ≡ settingOf keys bytes → (r ≡ settingOf keys bytes) × ReadBack keys bytes r
 as-said keys bytes e = (e, λ index n g l h b. e ∙ ap (settingOf keys) b ∙ read-back keys index n g l h)
 
+-- ---- an index is one of a key
+
+index-from : (from : ℕ) (keys : List (List ℕ)) (bytes : List ℕ) {index n : ℕ} → settingFrom from keys bytes ≡ Is index n → index < from + length keys
+unfolding settingFrom
+index-from from [] bytes e = impossible cc
+index-from from (k ∷ keys) bytes {index} {n} e =
+    by-test (beginsWith k bytes)
+    (λ t. here (numberIn of32Bits (drop (length k) bytes)) (rw t at e))
+    (λ t. let later = index-from (suc from) keys bytes (rw t at e) in omega arith)
+  where
+    here : (o : Option ℕ) → valueRead from o ≡ Is index n → index < from + suc (length keys)
+    here none p = impossible cc
+    here (some m) p = let same : from ≡ index = cc in omega arith
+
+pub index-within : (keys : List (List ℕ)) (bytes : List ℕ) {index n : ℕ} → settingOf keys bytes ≡ Is index n → index < length keys
+index-within keys bytes e = let below = index-from 0 keys bytes e in omega arith
+
 -- ---- the number behind a key, by the code's answer
 
 module _ (index : ℕ) (o : Option ℕ) {r : Number} (p : r ≡ numberRead o) where
