@@ -12,9 +12,9 @@ use lib.Dec.{eqb}
 use lib.ListN.{length, getD, take, drop, length-drop}
 use lib.Seq.{drop-cons, drop-drop, length-take-le, getD-take}
 use Rattle.laws.proofs.OfTests.{both, by-test}
-use Rattle.card.specs.Text.{found, lineFeed, firstLine, behindFirst, behind, linesLength, lineOf, valueOf, valueAt}
+use Rattle.card.specs.Text.{found, lineFeed, lineEnd, firstLine, behindFirst, behind, linesLength, lineOf, valueOf, valueAt}
 use Rattle.ascii.specs.Code.{feedless}
-use Rattle.card.specs.Code.{nextLine, lineEnd, lineIn}
+use Rattle.card.specs.Code.{nextLine, lineIn}
 
 -- the bytes from a place to the end, as a part of them that the code takes
 abbrev pub part : List ℕ → ℕ → List ℕ

@@ -14,8 +14,8 @@ use lib.Seq.{drop-cons, take-all, length-take-le}
 use Rattle.laws.proofs.OfTests.{by-test}
 use Rattle.laws.proofs.OfLists.{to-the-end}
 use Rattle.ascii.proofs.OfFeeds.{feedless-digits}
-use Rattle.card.specs.Text.{found, lineFeed, firstLine, linesLength, isDigit, allDigits, isDecimal, digitsValue, numberOf, numberIn, from_to_, numberRead}
-use Rattle.card.specs.Code.{nextLine, lineEnd, lineIn, Digits, wellFormed, figureRead}
+use Rattle.card.specs.Text.{found, lineFeed, lineEnd, firstLine, linesLength, isDigit, allDigits, isDecimal, digitsValue, numberOf, numberIn, from_to_, numberRead}
+use Rattle.card.specs.Code.{nextLine, lineIn, Digits, wellFormed, figureRead}
 use Rattle.card.specs.declared.Number.the-variants as number
 use Rattle.card.specs.declared.text.Figure.{Figure}
 use Rattle.card.specs.declared.text.Figure.the-variants.{Is, Wrong}

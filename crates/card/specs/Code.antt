@@ -1,14 +1,14 @@
 -- What the private functions ask of each other and answer: an enum of the code for each test and each Option of the definitions. The
 -- public contracts need none of it.
-use Prim.Native.Nat.{ℕ, suc, _+_, _≤_}
+use Prim.Native.Nat.{ℕ, _+_, _≤_}
 use Prim.Native.Char.{code}
 use mathlib.Core.Path.{_≡_}
-use mathlib.Core.Bool.{Bool, true, false, cond, not}
+use mathlib.Core.Bool.{Bool, true, false, not}
 use mathlib.Core.List.{List, [], _∷_}
 use mathlib.Core.Option.{Option, none, some}
 use lib.Dec.{eqb}
 use lib.ListN.{length, take, drop}
-use Rattle.card.specs.Text.{lineFeed, allDigits, digitsValue, linesLength}
+use Rattle.card.specs.Text.{lineEnd, allDigits, digitsValue, linesLength}
 use Rattle.card.specs.declared.Kind.{Kind}
 use Rattle.card.specs.declared.Build.{Build}
 use Rattle.card.specs.declared.lines.KindRead.{KindRead}
@@ -24,12 +24,7 @@ use Rattle.card.specs.declared.text.Figure.the-variants as figure
 abbrev pub nextLine : List ℕ → ℕ → ℕ
 nextLine s start = start + linesLength 1 (drop start s)
 
--- how many bytes stand before the first line feed; all where there is none
-unfoldable pub lineEnd : List ℕ → ℕ
-lineEnd [] = 0
-lineEnd (b ∷ t) = cond (eqb b lineFeed) 0 (suc (lineEnd t))
-
--- those bytes
+-- the bytes before the first line feed; all where there is none
 abbrev pub lineIn : List ℕ → List ℕ
 lineIn t = take (lineEnd t) t
 

@@ -26,6 +26,11 @@ unfoldable pub firstLine : List ℕ → Option (List ℕ)
 firstLine [] = none
 firstLine (b ∷ s) = cond (eqb b lineFeed) (some []) (Option·map (λ l. b ∷ l) (firstLine s))
 
+-- how many bytes stand before the first line feed; all where there is none
+unfoldable pub lineEnd : List ℕ → ℕ
+lineEnd [] = 0
+lineEnd (b ∷ s) = cond (eqb b lineFeed) 0 (suc (lineEnd s))
+
 -- the bytes behind the first line feed
 unfoldable pub behindFirst : List ℕ → List ℕ
 behindFirst [] = []

@@ -5,8 +5,8 @@
 ghost use mathlib.Core.Path.{_≡_};
 ghost use Prim.Native.Nat.{_+_, _≤_};
 ghost use lib.ListN.{length, take, drop};
-ghost use Rattle.card.specs.Text.{found, firstLine, beginsWith, numberIn, from_to_, of32Bits, numberRead};
-ghost use Rattle.card.specs.Code.{placeRead, figureRead, nextLine, wellFormed, Digits, lineEnd, lineIn};
+ghost use Rattle.card.specs.Text.{found, lineEnd, firstLine, beginsWith, numberIn, from_to_, of32Bits, numberRead};
+ghost use Rattle.card.specs.Code.{placeRead, figureRead, nextLine, wellFormed, Digits, lineIn};
 use crate::Number;
 use crate::limits::Limits;
 

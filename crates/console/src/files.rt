@@ -11,6 +11,7 @@ use units::smaller;
 pub enum Tool {
     Judge,
     Explain,
+    Fetch,
 }
 
 // How many bytes of a file stand at the start of a room, or that it could not be read.
@@ -103,5 +104,6 @@ fn begin_message(tool: Tool) -> bool {
     match tool {
         Tool::Judge => io::write_all(STDERR_FILENO, b"judge: "),
         Tool::Explain => io::write_all(STDERR_FILENO, b"explain: "),
+        Tool::Fetch => io::write_all(STDERR_FILENO, b"fetch: "),
     }
 }

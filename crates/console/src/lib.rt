@@ -1,4 +1,4 @@
-// What the programs that judge and explain share: room for what they read, standard input, files by the arguments that name them, and the
+// What the programs share: room for what they read, standard input, files by the arguments that name them, and the
 // report or the explanation on standard output.
 mod files;
 
@@ -109,5 +109,6 @@ fn tell_unwritten(tool: Tool) {
     match tool {
         Tool::Judge => files::tell(tool, b"the report was not written"),
         Tool::Explain => files::tell(tool, b"the explanation was not written"),
+        Tool::Fetch => files::tell(tool, b"the fields were not written"),
     }
 }

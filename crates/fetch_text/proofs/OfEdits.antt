@@ -8,7 +8,7 @@ use lib.ListN.{length, take, drop, set, length-drop, drop-of-length-le}
 use lib.Seq.{drop-drop, length-take-le}
 use Rattle.laws.proofs.OfCases.{impossible}
 use Rattle.laws.proofs.OfLists.{to-the-end}
-use Rattle.card.specs.Code.{lineEnd}
+use Rattle.card.specs.Text.{lineEnd}
 use Rattle.card.proofs.OfLines.{part, end-within}
 use Rattle.report.specs.Settings.{keysIn}
 use Rattle.settings.specs.declared.Setting.{Setting}

@@ -13,7 +13,7 @@ use Rattle.ascii.specs.Ascii.{ascii, lineFeed}
 use Rattle.ascii.specs.Decimal.{decimal}
 use Rattle.ascii.specs.Code.{feedless}
 use Rattle.ascii.proofs.OfFeeds.{feedless-joined, feedless-decimal}
-use Rattle.card.specs.Code.{lineEnd}
+use Rattle.card.specs.Text.{lineEnd}
 use Rattle.report.specs.Report.{beforeFirst}
 use Rattle.report.specs.Settings.{settingLines, settingsText}
 use Rattle.fetch_text.specs.Edit.{linesIn}

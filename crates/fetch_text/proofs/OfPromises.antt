@@ -1,13 +1,13 @@
 -- What `edit_fetch` promises, by what became of its row; and that the text of a fetch, read back, is that fetch. Assumes nothing.
 use mathlib.Core.Path.{_≡_, refl, sym, ap, _∙_, subst}
 use mathlib.Core.Bool.{Bool, true, false, not, _&&_}
-use mathlib.Core.List.{List, [], _∷_}
+use mathlib.Core.List.{List, [], _∷_, _++_}
 use mathlib.Core.Option.{Option, none, some}
-use Prim.Native.Nat.{ℕ, zero, suc, _+_, _^_, _≤_, _<_}
+use Prim.Native.Nat.{ℕ, zero, suc, _+_, _*_, _^_, _≤_, _<_}
 use native.Mathlib.Omega.{arith}
 use native.Mathlib.Nat.{pow-le-pow-right}
 use lib.Dec.{eqb, ltb, leb}
-use lib.ListN.{length, getD}
+use lib.ListN.{length, getD, length-append}
 use borrow.Author.Tests.{lt-ltb, leb-true, ne-eqb}
 use Rattle.laws.proofs.OfTests.{both, by-test}
 use Rattle.laws.proofs.OfCases.{impossible}
@@ -20,7 +20,10 @@ use Rattle.formats.specs.Vtx as vtx
 use Rattle.fetches.specs.Fetches.{badFetch, isSemantic}
 use Rattle.units.specs.declared.Words.{Words}
 use Rattle.card.specs.Text.{sameAs}
-use Rattle.report.specs.Settings.{settingLines}
+use Rattle.ascii.specs.Ascii.{ascii}
+use Rattle.ascii.specs.Decimal.{decimal}
+use Rattle.ascii.proofs.OfDecimal.{fewer-digits}
+use Rattle.report.specs.Settings.{settingLines, settingsText}
 use Rattle.settings.specs.declared.Setting.{Setting}
 use Rattle.settings.specs.declared.Setting.the-variants.{Is}
 use Rattle.settings.specs.Setting.{settingOf, changedBy}
@@ -107,6 +110,43 @@ module _ (g : Fetch) (can : encodable g ≡ true) where
   unfolding faultOf
   own-right zero h = rw (lt-ltb _ _ (value-fits zero h), number-first g, both (fieldsFit g) (formTaken g) can .1)
   own-right (suc k) h = rw (lt-ltb _ _ (value-fits (suc k) h), ne-eqb (suc k) 0 (λ e. omega arith))
+
+-- ---- how long the text is
+
+-- the bytes of some keys
+abbrev keysSize : List (List ℕ) → ℕ
+keysSize [] = 0
+keysSize (k ∷ ks) = length k + keysSize ks
+
+-- a number of 32 bits has ten digits at most
+settings-short : (keys : List (List ℕ)) (values : List ℕ) → Of32Bits values → length (settingsText keys values) ≤ keysSize keys + 11 * length keys
+unfolding settingsText settingLines
+settings-short [] values small = omega arith
+settings-short (k ∷ ks) [] small = omega arith
+settings-short (k ∷ ks) (v ∷ vs) small =
+    let value = small 0 (omega arith) in
+    let digits = fewer-digits 9 v (omega arith) in
+    let rest = settings-short ks vs (λ j h. small (suc j) (omega arith)) in
+    omega (
+      arith,
+      digits,
+      rest,
+      length-append k (decimal v),
+      length-append (k ++ decimal v) (ascii "\n"),
+      length-append (k ++ decimal v ++ ascii "\n") (settingsText ks vs),
+    )
+
+keys-short : (f : Fetch) → leb (keysSize (keysOf f) + 11 * length (keysOf f)) 628 ≡ true
+unfolding keysOf formFields tex.word0Fields tex.word1Fields tex.word2Fields vtx.word0Fields vtx.gprFields vtx.semFields vtx.word2Fields
+keys-short (Tex a b c) = refl
+keys-short (VtxGpr a b c) = refl
+keys-short (VtxSem a b c) = refl
+
+pub text-short : (f : Fetch) → encodable f ≡ true → length (textOf f) ≤ 628
+text-short f can =
+    let short = settings-short (keysOf f) (valuesOf f) (values-32 f can) in
+    let few = leb-true (keysSize (keysOf f) + 11 * length (keysOf f)) 628 (keys-short f) in
+    omega (arith, short, few)
 
 -- ---- read back
 
@@ -237,14 +277,14 @@ module _ (clause : Clause) (l : List ℕ) (start : Words) (text : List ℕ) wher
       let there = record-again-at h l start done clause (taken-kind clause l start g is ∙ sym (kind-same h g same)) in
       record {
         decodes = λ f e d.
-        let z : Taken f ≡ Taken g = sym e ∙ is in
-        let f-is : f ≡ g = cc in
-        there ∙ ap (λ (x : Fetch). Taken (edited x (linesIn text))) (sym f-is);
+            let z : Taken f ≡ Taken g = sym e ∙ is in
+            let f-is : f ≡ g = cc in
+            there ∙ ap (λ (x : Fetch). Taken (edited x (linesIn text))) (sym f-is);
         read-back = λ f x e form-same x-can t.
-        let z : Taken f ≡ Taken g = sym e ∙ is in
-        let f-is : f ≡ g = cc in
-        let back : h ≡ x = ap (λ (y : Fetch). edited y (linesIn text)) (sym f-is) ∙ ap (λ (y : List ℕ). edited f (linesIn y)) t ∙ text-back f x form-same x-can in
-        (refl, there ∙ ap Taken back);
+            let z : Taken f ≡ Taken g = sym e ∙ is in
+            let f-is : f ≡ g = cc in
+            let back : h ≡ x = ap (λ (y : Fetch). edited y (linesIn text)) (sym f-is) ∙ ap (λ (y : List ℕ). edited f (linesIn y)) t ∙ text-back f x form-same x-can in
+            (refl, there ∙ ap Taken back);
       }
 
   module _ (vs row : List ℕ) (long : length vs ≡ 32) (taken : read.Taken ≡ rowRead (decodeOf clause l start)) (row-is : row ≡ fetchAfter (decodeOf clause l start) vs) where

@@ -1,9 +1,11 @@
 -- The text of a fetch: document 02, request 2, for people who edit by hand. A line NAME=number for each field, with AMD's names in AMD's
 -- order. Names and order are those of the tables in Tex and Vtx of crate formats, and values those of the rows in crate codec_for_c.
-use Prim.Native.Nat.{ℕ}
+use Prim.Native.Nat.{ℕ, _≤_}
+use mathlib.Core.Path.{_≡_}
+use mathlib.Core.Bool.{true}
 use Prim.Native.String.{String}
 use mathlib.Core.List.{List, _++_, map}
-use lib.ListN.{drop}
+use lib.ListN.{length, drop}
 use Rattle.bits.specs.Fields.{widthOf}
 use Rattle.formats.specs.Fields.{Field, position}
 use Rattle.formats.specs.Tex as tex
@@ -14,6 +16,7 @@ use Rattle.fetch_codec.specs.declared.Fetch.{Fetch}
 use Rattle.fetch_codec.specs.declared.Fetch.the-variants.{Tex, VtxGpr, VtxSem}
 use Rattle.fetch_codec.specs.declared.FetchDecoded.{FetchDecoded}
 use Rattle.fetch_codec.specs.declared.FetchDecoded.the-variants.{Outside, NotTaken, Taken}
+use Rattle.fetch_codec.specs.Fetch.{encodable}
 use Rattle.codec_for_c.specs.FetchValues.{fetchValues}
 use Rattle.fetch_text.specs.declared.Shown.{Shown}
 use Rattle.fetch_text.specs.declared.Shown.the-variants as shown
@@ -39,6 +42,10 @@ valuesOf f = drop 1 (fetchValues f)
 -- a line for each
 abbrev pub textOf : Fetch → List ℕ
 textOf f = settingsText (keysOf f) (valuesOf f)
+
+-- a room for the text of every fetch that can be encoded, as each is that was decoded
+abbrev pub HoldsText : List ℕ → Type 0
+HoldsText room = (f : Fetch) → encodable f ≡ true → length (textOf f) ≤ length room
 
 -- ---- what is shown of the words at a start, and the buffer afterwards
 

@@ -4,13 +4,15 @@ mod keys;
 mod rows;
 
 ghost use mathlib.Core.Path.{_≡_};
+ghost use lib.ListN.{replicate};
 ghost use Rattle.fetch_codec.specs.Buffer.{decodeOf};
-ghost use Rattle.fetch_text.specs.Text.{shownOf, shownAfter};
+ghost use Rattle.fetch_text.specs.Text.{HoldsText, shownOf, shownAfter};
 ghost use Rattle.fetch_text.specs.Edit.{editOf, editedWords, Promised};
 use fetch_codec::Clause;
 use report::Written;
 use rows::RowEdit;
 use rows::RowRead;
+pub use rows::line_end;
 use units::Words;
 
 // What is shown of the words at a start.
@@ -41,6 +43,14 @@ pub enum Edit {
     // The setting that starts behind so many bytes of the text is the first that is wrong.
     Wrong(usize, Fault),
     Done,
+}
+
+// Room for the longest text of a fetch.
+pub fn text_room() -> [u8; 628]
+    ensures { λ r. ⌜ r ≡ replicate 628 0 ⌝ }
+    ensures { λ r. ⌜ HoldsText r ⌝ }
+{
+    [0; 628]
 }
 
 // Writes the fields of the fetch at `start` to the beginning of `out`, a line NAME=number each. Where they do not fit, or there is no fetch,

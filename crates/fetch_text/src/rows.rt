@@ -1,8 +1,8 @@
 // Rows of a fetch's values: read from words, written as text, and changed by settings.
 ghost use mathlib.Core.Path.{_≡_};
-ghost use Prim.Native.Nat.{_<_};
+ghost use Prim.Native.Nat.{_≤_, _<_};
 ghost use lib.ListN.{length};
-ghost use Rattle.card.specs.Code.{lineEnd};
+ghost use Rattle.card.specs.Text.{lineEnd};
 ghost use Rattle.report.specs.Buffer.{writtenOf, bufferAfter};
 ghost use Rattle.codec_for_c.specs.FetchValues.{clauseNumber, fetchIn, fetchAfter};
 ghost use Rattle.fetch_codec.specs.Buffer.{decodeOf};
@@ -111,8 +111,9 @@ fn set_lines(keys: &[u8], row: &mut [u32; 32], text: &[u8]) -> RowEdit
 }
 
 // How many bytes the first line has, without its line feed; all where there is none.
-fn line_end(text: &[u8]) -> usize
+pub fn line_end(text: &[u8]) -> usize
     ensures { λ r. ⌜ r ≡ lineEnd (now (text .entry)) ⌝ }
+    ensures { λ r. ⌜ r ≤ length (now (text .entry)) ⌝ }
 {
     let mut end = 0;
     while end < text.len() {

@@ -29,6 +29,8 @@ use report::ReportBuild;
 use report::Written;
 use units::Quadwords;
 use units::Slots;
+pub use words::load;
+pub use words::store;
 pub use words::word_of;
 
 // What the report is made of.

@@ -4,7 +4,7 @@ use mathlib.Core.Path.{_≡_}
 use Prim.Native.Nat.{_≤_, _+_, _-_, _*_}
 use native.Mathlib.Omega.{arith}
 use lib.ListN.{length, getD}
-use Rattle.card.specs.Code.{lineEnd}
+use Rattle.card.specs.Text.{lineEnd}
 use Rattle.card.proofs.OfLines.{passed-here, passed-all}
 use Rattle.card.proofs.OfRows.{figures-told, answer-refused}
 use Rattle.card.proofs.OfNumbers.{Reading, reading-none, reading-over, reading-end, reading-low, reading-high, reading-more, ended-there}

@@ -3,7 +3,7 @@ use borrow.Author.Needs.{needs}
 use Prim.Native.Nat.{_-_}
 use native.Mathlib.Omega.{arith}
 use lib.ListN.{length}
-use Rattle.card.proofs.OfLines.{Passed, passed-none, passed-more, passed-here, passed-all}
+use Rattle.card.proofs.OfLines.{end-within, Passed, passed-none, passed-more, passed-here, passed-all}
 use Rattle.fetch_text.proofs.rows.line_end.Statement.{statement}
 use Rattle.fetch_text.proofs.rows.line_end.Tie as tie
 
@@ -22,7 +22,7 @@ shared-slice-read-if1 c = search needs
 returns : tie.Need-returns Inv-loop μ-loop
 returns c =
     let a = c .before .before .before in
-    passed-here (a .before .args .text .now) (a .loop .end) (omega arith) (c .if1 .taken) (a .loop .inv)
+    (passed-here (a .before .args .text .now) (a .loop .end) (omega arith) (c .if1 .taken) (a .loop .inv), omega arith)
 
 add-end : tie.Need-add-end Inv-loop μ-loop
 add-end c = search needs
@@ -38,7 +38,8 @@ loop-again c =
 returns-2 : tie.Need-returns-2 Inv-loop μ-loop
 returns-2 c =
     let a = c .before in
-    passed-all (a .before .args .text .now) (a .loop .end) (omega arith) (a .loop .inv)
+    let all = passed-all (a .before .args .text .now) (a .loop .end) (omega arith) (a .loop .inv) in
+    (all, omega (arith, all, end-within (a .before .args .text .now)))
 
 pub line-end-spec : {M : Type 1} → statement M
 line-end-spec =

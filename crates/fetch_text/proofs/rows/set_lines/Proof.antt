@@ -34,7 +34,7 @@ slice-aggregate-set-line : tie.Need-slice-aggregate-set-line Inv-loop μ-loop
 slice-aggregate-set-line c =
     let l = c .before .before in
     let a = l .before .before .before in
-    omega (arith, line-length (a .loop .inv) (omega arith) (l .line-end .result) (l .line-end .ensures))
+    omega (arith, line-length (a .loop .inv) (omega arith) (l .line-end .result) (l .line-end .ensures .0))
 
 set-line-requires : tie.Need-set-line-requires Inv-loop μ-loop
 set-line-requires c κs = c .before .before .before .before .before .loop .inv .holds
@@ -47,7 +47,7 @@ returns c =
     let s = c .before .before .before in
     let l = s .before .before .before in
     let a = l .before .before .before in
-    line-wrong (a .loop .inv) (omega arith) (l .line-end .result) (l .line-end .ensures) (s .set-line .ensures) (c .before .set .given .1)
+    line-wrong (a .loop .inv) (omega arith) (l .line-end .result) (l .line-end .ensures .0) (s .set-line .ensures) (c .before .set .given .1)
 
 enum-told : tie.Need-enum-told Inv-loop μ-loop
 enum-told c = search needs
@@ -62,7 +62,7 @@ line-within c =
     let text = a .before .before .before .args .text .now in
     omega (
       arith,
-      end-inside (a .loop .inv) (omega arith) (l .line-end .result) (l .line-end .ensures),
+      end-inside (a .loop .inv) (omega arith) (l .line-end .result) (l .line-end .ensures .0),
       ap length (to-the-end (a .loop .at) text),
       length-drop (a .loop .at) text,
     )
@@ -81,7 +81,7 @@ loop-again c =
     let s = c .before .before in
     let l = s .before .before .before in
     let a = l .before .before .before in
-    line-put (a .loop .inv) (omega arith) (l .line-end .result) (l .line-end .ensures) (s .set-line .ensures) (c .enum-told .given .1)
+    line-put (a .loop .inv) (omega arith) (l .line-end .result) (l .line-end .ensures .0) (s .set-line .ensures) (c .enum-told .given .1)
 
 returns-2 : tie.Need-returns-2 Inv-loop μ-loop
 returns-2 c = all-put (c .before .loop .inv) (omega arith)

@@ -1,7 +1,8 @@
 -- `input::words::load` meets its contract: word by word, the room begins with the words so far. Assumes nothing.
 use borrow.Author.Needs.{needs}
+use native.Mathlib.Omega.{arith}
 use Prim.Native.Nat.{_-_}
-use Rattle.input.proofs.OfWords.{Loading, none-loaded, one-more-loaded, all-loaded}
+use Rattle.input.proofs.OfWords.{Loading, none-loaded, word-there, place-there, one-more-loaded, all-loaded}
 use Rattle.input.proofs.words.load.Statement.{statement}
 use Rattle.input.proofs.words.load.Tie as tie
 
@@ -12,21 +13,19 @@ abbrev μ-loop : tie.MeasureT-loop
 μ-loop bytes words₀ n i₀ words i = n - i
 
 loop-holds : tie.Need-loop-holds Inv-loop μ-loop
-loop-holds c =
-    let a = c .before .before .args in
-    none-loaded (a .bytes .now) (a .words .now) _ (search needs) (search needs)
+loop-holds c = let a = c .before .before .before .args in none-loaded (a .bytes .now) (a .words .now) (c .smaller .ensures)
 
 mul-word-at : tie.Need-mul-word-at Inv-loop μ-loop
-mul-word-at c = search needs
+mul-word-at c = omega (arith, word-there (c .before .loop .inv) (c .loop-test .taken))
 
 word-at-requires : tie.Need-word-at-requires Inv-loop μ-loop
-word-at-requires c κs = search needs
+word-at-requires c κs = omega (arith, word-there (c .before .loop .inv) (c .loop-test .taken))
 
 mul-words : tie.Need-mul-words Inv-loop μ-loop
-mul-words c = search needs
+mul-words c = omega (arith, word-there (c .before .before .loop .inv) (c .before .loop-test .taken))
 
 slice-write-words : tie.Need-slice-write-words Inv-loop μ-loop
-slice-write-words c = search needs
+slice-write-words c = place-there (c .before .before .loop .inv) (c .before .loop-test .taken)
 
 add-i : tie.Need-add-i Inv-loop μ-loop
 add-i c = search needs
@@ -49,6 +48,7 @@ load-spec =
     (tie.spec
     Inv-loop
     μ-loop
+    (λ c κs. search needs)
     loop-holds
     mul-word-at
     word-at-requires
