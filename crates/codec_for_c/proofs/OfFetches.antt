@@ -14,6 +14,8 @@ use borrow.Author.Tests.{le-leb, lt-leb, leb-true, eqb-true, eqb-false}
 use Rattle.laws.proofs.OfTests.{both, by-test}
 use Rattle.units.specs.Units.{words}
 use Rattle.checks.specs.Verdict.{verdictNumber}
+use Rattle.opcodes.specs.declared.cf.Control.the-variants as control
+use Rattle.opcodes.specs.Numbers.{cf, cfControl}
 use Rattle.formats.specs.Tex as tex
 use Rattle.formats.specs.Vtx as vtx
 use Rattle.microcode.specs.declared.Encoded.{Encoded}
@@ -178,6 +180,13 @@ unfolding clauseNumbered isClause
 known-clause clause.Tex = (refl, refl)
 known-clause clause.Vtx = (refl, refl)
 known-clause clause.VtxTc = (refl, refl)
+
+-- and it is the control-flow number of such a clause's opener
+pub opener-number : (c : Clause) → cfControl (clauseNumber c) ≡ control.Fetch (kindOf c)
+unfolding cfControl cf
+opener-number clause.Tex = refl
+opener-number clause.Vtx = refl
+opener-number clause.VtxTc = refl
 
 -- values that were encoded, decoded from their place in a clause of their kind: 0, and every value is as it was
 fetch-row-again : (l : List ℕ) (start : ℕ) (vs : List ℕ) → fetchFromNumber vs l start ≡ 0 → (c : Clause) → kindOf c ≡ formKind (fetchIn vs) → FetchRowAgain (clauseNumber c) (fetchWords vs l start) start vs

@@ -72,7 +72,7 @@ cfValues a b =
 abbrev pub exportValues : CfAllocExportWord0 → CfAllocExportWord1Swiz → List ℕ
 exportValues a b = 2 ∷ export.word0Values a ++ export.word1Values b
 
--- form 3, ALU with OP2: the longest, 24 values
+-- form 3, ALU with OP2: the longest of the pairs, 24 values
 abbrev pub op2Values : AluWord0 → AluWord1Op2 → List ℕ
 op2Values a b = 3 ∷ alu.word0Values a ++ alu.op2Values b
 
@@ -219,7 +219,7 @@ recordOf vs =
     (cond (eqb (formOf vs) 2) (Export (exportWord0At vs) (exportWord1At vs))
     (cond (eqb (formOf vs) 3) (Op2 (aluWord0At vs) (op2At vs)) (Op3 (aluWord0At vs) (op3At vs)))))
 
--- a row has 32 elements or more, whatever its form; the longest takes 24 of them
+-- a row has 32 elements or more, whatever its form; the longest, a texture fetch, takes 30 of them
 abbrev pub rowLength : ℕ
 rowLength = 32
 

@@ -64,7 +64,7 @@ pub fn report_on(input: &[u8], room: &mut [u8])
     ensures { λ _. ⌜ now (room .exit) ≡ bufferAfter (reportOf (now (input .entry))) (now (room .entry)) ⌝ }
 {
     let written = input::report_input(input, room);
-    show(Tool::Judge, written, room);
+    show(Tool::Judge, written, room, b"the report was not written");
 }
 
 // The same on a card's file and a pack's.
@@ -72,7 +72,7 @@ pub fn report_on_files(card: &[u8], pack: &[u8], room: &mut [u8])
     ensures { λ _. ⌜ now (room .exit) ≡ bufferAfter (reportOfFiles (now (card .entry)) (now (pack .entry))) (now (room .entry)) ⌝ }
 {
     let written = input::report_files(card, pack, room);
-    show(Tool::Judge, written, room);
+    show(Tool::Judge, written, room, b"the report was not written");
 }
 
 // The same with the explanation.
@@ -80,7 +80,12 @@ pub fn explain_on(input: &[u8], room: &mut [u8])
     ensures { λ _. ⌜ now (room .exit) ≡ bufferAfter (linesOfInput (now (input .entry))) (now (room .entry)) ⌝ }
 {
     let written = explain::write_input_explanation(input, room);
-    show(Tool::Explain, written, room);
+    show(
+        Tool::Explain,
+        written,
+        room,
+        b"the explanation was not written",
+    );
 }
 
 // The same on a card's file and a pack's.
@@ -88,27 +93,24 @@ pub fn explain_on_files(card: &[u8], pack: &[u8], room: &mut [u8])
     ensures { λ _. ⌜ now (room .exit) ≡ bufferAfter (linesOfFiles (now (card .entry)) (now (pack .entry))) (now (room .entry)) ⌝ }
 {
     let written = explain::write_files_explanation(card, pack, room);
-    show(Tool::Explain, written, room);
+    show(
+        Tool::Explain,
+        written,
+        room,
+        b"the explanation was not written",
+    );
 }
 
-// What can't be written is told on standard error.
-fn show(tool: Tool, written: Written, room: &[u8])
+// What can't be written is told on standard error, by the name that `lost` has for it.
+fn show(tool: Tool, written: Written, room: &[u8], lost: &[u8])
     requires { ⌜ ((n : ℕ) → written ≡ Length n → n ≤ length (now room)) ⌝ }
 {
     match written {
         Written::Length(n) => {
             if !io::write_all(STDOUT_FILENO, &room[..n]) {
-                tell_unwritten(tool);
+                files::tell(tool, lost);
             }
         }
         Written::TooSmall => {}
-    }
-}
-
-fn tell_unwritten(tool: Tool) {
-    match tool {
-        Tool::Judge => files::tell(tool, b"the report was not written"),
-        Tool::Explain => files::tell(tool, b"the explanation was not written"),
-        Tool::Fetch => files::tell(tool, b"the fields were not written"),
     }
 }

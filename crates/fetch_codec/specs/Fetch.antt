@@ -51,11 +51,17 @@ fieldsFit (VtxGpr a b c) =
 fieldsFit (VtxSem a b c) =
     fitsTable vtx.word0Table (vtx.word0Values a) && fitsTable vtx.semTable (vtx.semValues b) && fitsTable vtx.word2Table (vtx.word2Values c)
 
--- the number is one that the form has, so no words read back as another form
+-- the numbers that the form of a fetch has: no number is one of two forms of a kind
+abbrev pub takesNumber : Fetch → ℕ → Bool
+takesNumber (Tex a b c) n = fetchTaken Texture n
+takesNumber (VtxGpr a b c) n = fetchTaken Vertex n && not (isSemantic Vertex n)
+takesNumber (VtxSem a b c) n = fetchTaken Vertex n && isSemantic Vertex n
+
+-- its own number is one of them, so no words read back as another form
 abbrev pub formTaken : Fetch → Bool
-formTaken (Tex a b c) = fetchTaken Texture (a .«tex_inst»)
-formTaken (VtxGpr a b c) = fetchTaken Vertex (a .«vtx_inst») && not (isSemantic Vertex (a .«vtx_inst»))
-formTaken (VtxSem a b c) = fetchTaken Vertex (a .«vtx_inst») && isSemantic Vertex (a .«vtx_inst»)
+formTaken (Tex a b c) = takesNumber (Tex a b c) (a .«tex_inst»)
+formTaken (VtxGpr a b c) = takesNumber (VtxGpr a b c) (a .«vtx_inst»)
+formTaken (VtxSem a b c) = takesNumber (VtxSem a b c) (a .«vtx_inst»)
 
 abbrev pub encodable : Fetch → Bool
 encodable f = fieldsFit f && formTaken f

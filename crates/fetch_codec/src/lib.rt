@@ -1,6 +1,6 @@
 // Fetches in full: the four words of a fetch as a record with AMD's field names, and back.
 //
-// A decoder is told which clause a fetch stands in, since texture fetches and vertex fetches are told apart by their clause only.
+// A decoder is told which clause a fetch stands in: the words of a fetch do not say of which kind it is, and rule 8 goes by the clause.
 mod four;
 pub mod words;
 

@@ -1,11 +1,11 @@
 -- A fetch of a pack in bytes: document 02, request 2, for people who edit by hand. A pack is whole quadwords, 8,192 at most, as document 01 has
 -- it; what is shown of its words and becomes of them is said in fetch_text's Text.antt and Edit.antt.
-use Prim.Native.Nat.{ℕ, _*_, _%_}
+use Prim.Native.Nat.{ℕ, _+_, _*_, _%_}
 use mathlib.Core.Path.{_≡_}
 use mathlib.Core.Bool.{cond}
 use mathlib.Core.List.{List}
 use lib.Dec.{eqb, leb}
-use lib.ListN.{length}
+use lib.ListN.{length, take, drop}
 use Rattle.units.specs.declared.Words.{Words}
 use Rattle.fetch_codec.specs.declared.Clause.{Clause}
 use Rattle.fetch_codec.specs.Buffer.{decodeOf}
@@ -50,6 +50,12 @@ packAfter clause pack start text =
     let d = decodeOf clause (wordsIn pack) start in
     ofPack pack pack pack (bytesAfter (editOf d text) pack (editedWords d text (wordsIn pack) start))
 
--- what is promised of the words is true of those that the bytes hold then
+-- the bytes before the fetch's sixteen and behind them stay
+pub record OthersStay (before after : List ℕ) (start : Words) : Type 0 where
+  pub earlier : take (start .0 * 4) after ≡ take (start .0 * 4) before
+  pub later : drop (start .0 * 4 + 16) after ≡ drop (start .0 * 4 + 16) before
+
+-- whatever is answered; and what is promised of the words is true of those that the bytes hold then
 pub record PackPromised (clause : Clause) (before after text : List ℕ) (start : Words) (r : PackEdit) : Type 0 where
+  pub others : OthersStay before after start
   pub words : (e : Edit) → r ≡ answer.Is e → Promised clause (wordsIn before) (wordsIn after) text start e

@@ -4,3 +4,4 @@ pub mod OfRows
 pub mod OfLines
 pub mod OfEdits
 pub mod OfPromises
+pub mod Examples

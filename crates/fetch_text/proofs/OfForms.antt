@@ -20,7 +20,7 @@ use Rattle.formats.specs.Vtx as vtx
 use Rattle.report.specs.Settings.{keyOf}
 use Rattle.fetch_codec.specs.declared.Fetch.{Fetch}
 use Rattle.fetch_codec.specs.declared.Fetch.the-variants.{Tex, VtxGpr, VtxSem}
-use Rattle.fetch_codec.specs.Fetch.{formKind, fieldsFit, formTaken, encodable}
+use Rattle.fetch_codec.specs.Fetch.{formKind, fieldsFit, takesNumber, formTaken, encodable}
 use Rattle.codec_for_c.specs.Values.{formOf}
 use Rattle.codec_for_c.specs.FetchValues.{fetchValues, fetchIn}
 use Rattle.codec_for_c.proofs.OfValues.{values-first}
@@ -28,7 +28,7 @@ use Rattle.settings.specs.declared.Setting.{Setting}
 use Rattle.settings.specs.declared.Setting.the-variants.{NoName, NoNumber, Is}
 use Rattle.fetch_text.specs.declared.Fault.the-variants.{TooWide, NotTaken}
 use Rattle.fetch_text.specs.Text.{formFields, keysOf, widthsOf, valuesOf}
-use Rattle.fetch_text.specs.Edit.{takesNumber, faultOf}
+use Rattle.fetch_text.specs.Edit.{faultOf}
 
 -- ---- what goes by the form alone
 
@@ -70,7 +70,6 @@ pub length-same : (f g : Fetch) → form f ≡ form g → length (fetchValues f)
 length-same = by-form (λ f. length (fetchValues f)) (λ a b c d e g. refl) (λ a b c d e g. refl) (λ a b c d e g. refl)
 
 takes-same : (n : ℕ) (f g : Fetch) → form f ≡ form g → takesNumber f n ≡ takesNumber g n
-unfolding fetchIn
 takes-same n = by-form (λ f. takesNumber f n) (λ a b c d e g. refl) (λ a b c d e g. refl) (λ a b c d e g. refl)
 
 pub fault-same : (s : Setting) (f g : Fetch) → form f ≡ form g → faultOf f s ≡ faultOf g s
@@ -237,6 +236,16 @@ module _ (f : Fetch) (i n : ℕ) (h : i < length (valuesOf f)) where
       by (VtxGpr a b c) = refl
       by (VtxSem a b c) = refl
 
+  -- and the first is the number
+  number-is : i ≡ 0 → formTaken with-value ≡ takesNumber f n
+  unfolding fetchIn
+  number-is e = rw e (by f)
+    where
+      by : (f : Fetch) → formTaken (fetchIn (set (fetchValues f) 1 n)) ≡ takesNumber f n
+      by (Tex a b c) = refl
+      by (VtxGpr a b c) = refl
+      by (VtxSem a b c) = refl
+
   module _ (can : encodable f ≡ true) where
     can-with : encodable with-value ≡ ltb n (2 ^ getD (widthsOf f) i 0) && formTaken with-value
     can-with = ap (λ (t : Bool). t && formTaken with-value) (fits-with (both (fieldsFit f) (formTaken f) can .0))
@@ -246,18 +255,14 @@ module _ (f : Fetch) (i n : ℕ) (h : i < length (valuesOf f)) where
     unfolding faultOf
     nothing-wrong e =
         let k = both (ltb n (2 ^ getD (widthsOf f) i 0)) (formTaken with-value) (sym can-with ∙ e) in
-        rw (k .0) (by-test (eqb i 0) (λ t. rw (t, number-there t (k .1))) (λ t. rw t))
-      where
-        number-there : eqb i 0 ≡ true → formTaken with-value ≡ true → takesNumber f n ≡ true
-        number-there t = rw (eqb-true i 0 t) (λ e. e)
+        rw (k .0) (by-test (eqb i 0) (λ t. rw (t, sym (number-is (eqb-true i 0 t)) ∙ k .1)) (λ t. rw t))
 
     -- the number is not of the form
     pub number-wrong : encodable with-value ≡ false → i ≡ 0 → ltb n (2 ^ widthOf (position «FETCH_INST»)) ≡ true → faultOf f (Is i n) ≡ some NotTaken
     unfolding faultOf
     number-wrong e z t =
         let narrow : ltb n (2 ^ getD (widthsOf f) i 0) ≡ true = rw (z, first-width f) t in
-        let number : formTaken with-value ≡ takesNumber f n = ap (λ (k : ℕ). formTaken (fetchIn (set (fetchValues f) (suc k) n))) z in
-        let other : takesNumber f n ≡ false = sym number ∙ sym (rw narrow at can-with) ∙ e in
+        let other : takesNumber f n ≡ false = sym (number-is z) ∙ sym (rw narrow at can-with) ∙ e in
         rw (narrow, eq-eqb i 0 z, other)
 
     -- it exceeds the width

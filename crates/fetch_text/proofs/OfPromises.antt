@@ -35,7 +35,7 @@ use Rattle.microcode.specs.declared.Encoded.the-variants.{Done}
 use Rattle.fetch_codec.specs.declared.Clause.{Clause}
 use Rattle.fetch_codec.specs.declared.FetchDecoded.{FetchDecoded}
 use Rattle.fetch_codec.specs.declared.FetchDecoded.the-variants.{Outside, NotTaken, Taken}
-use Rattle.fetch_codec.specs.Fetch.{kindOf, formKind, fetchOf, vertexOf, fieldsFit, formTaken, encodable}
+use Rattle.fetch_codec.specs.Fetch.{kindOf, formKind, fetchOf, vertexOf, fieldsFit, takesNumber, formTaken, encodable}
 use Rattle.fetch_codec.specs.Buffer.{room, fourOf, decodeOf, encodeAnswer, encodeWords, writeAnswer}
 use Rattle.fetch_codec.proofs.RoundTrip.{record-again-at}
 use Rattle.codec_for_c.specs.FetchValues.{fetchValues, fetchIn, isFetch, fetchAfter, fetchWords}
@@ -47,7 +47,7 @@ use Rattle.fetch_text.specs.declared.rows.RowRead.the-variants as read
 use Rattle.fetch_text.specs.declared.rows.RowEdit.{RowEdit}
 use Rattle.fetch_text.specs.declared.rows.RowEdit.the-variants as all
 use Rattle.fetch_text.specs.Text.{formFields, keysOf, widthsOf, valuesOf, textOf}
-use Rattle.fetch_text.specs.Edit.{linesIn, takesNumber, faultOf, orLater, firstFault, edited, editOf, editedWords, wordsWith, answerTo, Promised}
+use Rattle.fetch_text.specs.Edit.{linesIn, faultOf, orLater, firstFault, edited, editOf, editedWords, wordsWith, answerTo, Promised}
 use Rattle.fetch_text.specs.Code.{rowRead, rowEdit, AllPut}
 use Rattle.fetch_text.proofs.OfForms.{form, keys-same, kind-same, fault-same, length-same, keys-count, widths-count, values-row, fetch-itself, fits-all}
 use Rattle.fetch_text.proofs.OfLines.{feedlessKeys, lines-written}
@@ -89,7 +89,6 @@ narrow-at (w ∷ ws) (suc k) h l = narrow-at ws k (both (leb w 32) (allNarrow ws
 
 -- the first value is the number
 number-first : (g : Fetch) → takesNumber g (getD (valuesOf g) 0 0) ≡ formTaken g
-unfolding fetchIn
 number-first (Tex a b c) = refl
 number-first (VtxGpr a b c) = refl
 number-first (VtxSem a b c) = refl

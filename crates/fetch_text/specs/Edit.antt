@@ -1,12 +1,13 @@
--- A fetch edited by settings NAME=number, a line each: document 02, request 2. The settings are put into it one after the other, so of two
--- for one field the last counts; where one of them is wrong nothing is changed, and the first that is wrong is named.
-use Prim.Native.Nat.{ℕ, suc, _+_, _^_}
+-- A fetch edited by settings NAME=number, a line each: document 02, request 2, for people who edit by hand. Where one of the settings is wrong
+-- nothing is changed, and the first that is wrong is named; else they are put into the fetch one after the other, so of two for one field the
+-- last counts.
+use Prim.Native.Nat.{ℕ, _+_, _^_}
 use mathlib.Core.Path.{_≡_}
 use mathlib.Core.Bool.{Bool, true, cond, not, _&&_}
 use mathlib.Core.List.{List, [], _∷_}
 use mathlib.Core.Option.{Option, none, some}
 use lib.Dec.{eqb, ltb}
-use lib.ListN.{length, getD, set}
+use lib.ListN.{length, getD}
 use Rattle.units.specs.declared.Words.{Words}
 use Rattle.ascii.specs.Ascii.{lineFeed}
 use Rattle.report.specs.Report.{beforeFirst}
@@ -17,7 +18,7 @@ use Rattle.fetch_codec.specs.declared.Fetch.{Fetch}
 use Rattle.fetch_codec.specs.declared.FetchDecoded.{FetchDecoded}
 use Rattle.fetch_codec.specs.declared.FetchDecoded.the-variants.{Outside, NotTaken, Taken}
 use Rattle.fetch_codec.specs.declared.Clause.{Clause}
-use Rattle.fetch_codec.specs.Fetch.{formTaken, encodable}
+use Rattle.fetch_codec.specs.Fetch.{takesNumber, encodable}
 use Rattle.fetch_codec.specs.Buffer.{decodeOf, encodeWords}
 use Rattle.codec_for_c.specs.Values.{formOf}
 use Rattle.codec_for_c.specs.FetchValues.{fetchValues, fetchIn}
@@ -32,13 +33,9 @@ unfoldable pub linesIn : List ℕ → List (List ℕ)
 linesIn [] = []
 linesIn (b ∷ bs) = cond (eqb b lineFeed) ([] ∷ linesIn bs) (beforeFirst b (linesIn bs))
 
--- ---- what is wrong with a setting
+-- ---- what is wrong with a setting, which goes by the fetch's form alone and not by the numbers in its fields
 
--- the form of f takes the number, which is its first field's
-abbrev pub takesNumber : Fetch → ℕ → Bool
-takesNumber f n = formTaken (fetchIn (set (fetchValues f) 1 n))
-
--- no such field; no number; one that exceeds the field's width; or a number that the form doesn't take
+-- no such field; no number; one that exceeds the field's width; or, for the first field, a number that the form doesn't have
 unfoldable pub faultOf : Fetch → Setting → Option Fault
 faultOf f NoName = some fault.NoField
 faultOf f NoNumber = some fault.NoNumber

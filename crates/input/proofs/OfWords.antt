@@ -7,7 +7,7 @@ use native.Mathlib.Nat.{zero-add, min-le-left, min-le-right, min-eq-left, mod-eq
 use native.Mathlib.Numerals.{add-one}
 use native.Mathlib.Omega.{arith}
 use lib.Dec.{ltb}
-use lib.ListN.{length, getD, take, drop, set, length-set, List·getD-eq-default}
+use lib.ListN.{length, getD, take, drop, set, length-set, drop-of-length-le, List·getD-eq-default}
 use borrow.Author.Tests.{ltb-true, ltb-false}
 use lib.Seq.{drop-cons, drop-drop, drop-at, take-suc, take-all, take-at, take-append-seam, length-take-le, set-at, sets, sets-eq, length-sets}
 use Rattle.laws.proofs.OfTests.{by-test}
@@ -128,6 +128,23 @@ bytes-snoc : (ws : List ℕ) (w : ℕ) → bytesOf (ws ++ (w ∷ [])) ≡ bytesO
 unfolding bytesOf
 bytes-snoc [] w = refl
 bytes-snoc (v ∷ ws) w = ap (λ (r : List ℕ). wordBytes v ++ r) (bytes-snoc ws w)
+
+-- the bytes of the first n words, and of those behind them
+pub bytes-take : (n : ℕ) (ws : List ℕ) → take (n * 4) (bytesOf ws) ≡ bytesOf (take n ws)
+unfolding bytesOf
+bytes-take zero ws = refl
+bytes-take (suc n) [] = take-all (suc n * 4) [] (omega arith)
+bytes-take (suc n) (w ∷ ws) =
+    let four-more : suc n * 4 ≡ suc (suc (suc (suc (n * 4)))) = omega arith in
+    ap (λ (k : ℕ). take k (bytesOf (w ∷ ws))) four-more ∙ ap (λ (r : List ℕ). wordBytes w ++ r) (bytes-take n ws)
+
+pub bytes-drop : (n : ℕ) (ws : List ℕ) → drop (n * 4) (bytesOf ws) ≡ bytesOf (drop n ws)
+unfolding bytesOf
+bytes-drop zero ws = refl
+bytes-drop (suc n) [] = drop-of-length-le [] {i = suc n * 4} (omega arith)
+bytes-drop (suc n) (w ∷ ws) =
+    let four-more : suc n * 4 ≡ suc (suc (suc (suc (n * 4)))) = omega arith in
+    ap (λ (k : ℕ). drop k (bytesOf (w ∷ ws))) four-more ∙ bytes-drop n ws
 
 -- four bytes put one behind the other
 pub four-put : (l : List ℕ) (at w : ℕ) {a b c d : ℕ} → a ≡ w % 256 → b ≡ w / 256 % 256 → c ≡ w / 256 / 256 % 256 → d ≡ w / 256 / 256 / 256 % 256

@@ -8,9 +8,9 @@ use Rattle.console.proofs.explain_on.Tie as tie
 
 show-requires : tie.Need-show-requires
 show-requires c κs n e =
-    let called = c .before .before .before .write-input-explanation in
+    let called = c .before .before .before .before .write-input-explanation in
     let h = written-within _ _ _ (sym e ∙ called .ensures .0) in
     omega (arith, h)
 
 pub explain-on-spec : {M : Type 1} → statement M
-explain-on-spec = tie.close (tie.spec (λ c κs. search needs) show-requires (λ c. search needs) (λ c. search needs))
+explain-on-spec = tie.close (tie.spec (λ c κs. search needs) (λ c. search needs) show-requires (λ c. search needs) (λ c. search needs))

@@ -8,9 +8,9 @@ use Rattle.console.proofs.report_on_files.Tie as tie
 
 show-requires : tie.Need-show-requires
 show-requires c κs n e =
-    let called = c .before .before .before .report-files in
+    let called = c .before .before .before .before .report-files in
     let h = written-within _ _ _ (sym e ∙ called .ensures .0) in
     omega (arith, h)
 
 pub report-on-files-spec : {M : Type 1} → statement M
-report-on-files-spec = tie.close (tie.spec (λ c κs. search needs) show-requires (λ c. search needs) (λ c. search needs))
+report-on-files-spec = tie.close (tie.spec (λ c κs. search needs) (λ c. search needs) show-requires (λ c. search needs) (λ c. search needs))

@@ -7,7 +7,7 @@ use Rattle.console.proofs.show.Tie as tie
 
 slice-aggregate-write-all : tie.Need-slice-aggregate-write-all
 slice-aggregate-write-all c =
-    let h = c .before .before .before .before .before .pre _ (c .before .before .written .given .1) in
+    let h = c .before .before .before .before .before .before .pre _ (c .before .before .written .given .1) in
     simp length-take (omega arith)
 
 pub show-spec : {M : Type 1} → statement M

@@ -10,12 +10,12 @@ use Rattle.fetch_pack.proofs.edit_fetch.Tie as tie
 long : tie.Need-returns
 long c =
     let pack = c .before .before .before .args .pack .now in
-    (too-long pack _ _ _ (omega arith), (too-long pack _ _ _ (omega arith), not-is-long _ _ _ _ _))
+    (too-long pack _ _ _ (omega arith), (too-long pack _ _ _ (omega arith), not-is-long _ _ _ _))
 
 partial : tie.Need-returns-2
 partial c =
     let pack = c .before .before .before .before .args .pack .now in
-    (not-whole pack _ _ _ (omega arith) (c .if2 .taken), (not-whole pack _ _ _ (omega arith) (c .if2 .taken), not-is-partial _ _ _ _ _))
+    (not-whole pack _ _ _ (omega arith) (c .if2 .taken), (not-whole pack _ _ _ (omega arith) (c .if2 .taken), not-is-partial _ _ _ _))
 
 edited : tie.Need-returns-3
 edited c =
@@ -24,7 +24,7 @@ edited c =
     let pack = i .before .before .before .before .args .pack .now in
     let r = e .edit-in .ensures in (
       ap Is (r .told) ∙ whole pack _ _ _ (omega arith) (i .if2 .left),
-      (r .bytes ∙ whole pack _ _ _ (omega arith) (i .if2 .left), words-promised _ _ _ _ _ (r .promised)),
+      (r .bytes ∙ whole pack _ _ _ (omega arith) (i .if2 .left), words-promised _ _ _ _ (r .others) (r .promised)),
     )
 
 pub edit-fetch-spec : {M : Type 1} → statement M

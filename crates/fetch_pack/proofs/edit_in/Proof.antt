@@ -31,11 +31,13 @@ stored c =
     let k = t .before .before in
     let e = k .before .before in
     let l = e .before .before .before .before in
-    let a = l .before .before .before .before .before .before in
+    let first = l .before .before .before .before .before in
+    let a = first .before in
     let same = whole-loaded (a .args .pack .now) (a .args .room .now) (a .pre .0) (l .load .ensures .0) (l .load .ensures .1) in
     edit-stored (a .args .clause) (a .args .pack .now) (a .args .settings .now) (a .args .start) same
     (e .edit-fetch .ensures .0) (e .edit-fetch .ensures .1 .0) (e .edit-fetch .ensures .1 .1)
-    (l .load .result) _ (t .enum-told .given .1) (a .pre .1) (l .load .ensures .0 ∙ min-eq-left (a .pre .0)) (λ j. k .slice-known4 .given j .fits) (s .store .ensures)
+    (l .load .result) _ (t .enum-told .given .1) (a .pre .1) (l .load .ensures .0 ∙ min-eq-left (a .pre .0)) (λ j. k .slice-known4 .given j .fits)
+    (λ j. first .slice-known .given j .fits) (s .store .ensures)
 
 pub edit-in-spec : {M : Type 1} → statement M
 edit-in-spec =
