@@ -1,15 +1,12 @@
 -- The codec for fetches through values: by what its code tests and calls, and the round trips. Both rest on those of crate fetch_codec; what is
 -- new is that a fetch is what its values say. Assumes nothing.
 use mathlib.Core.Path.{_≡_, refl, sym, ap, _∙_, subst}
-use mathlib.Core.Logic.{⊎-elim}
 use mathlib.Core.Bool.{Bool, true, false, _&&_}
 use mathlib.Core.List.{List, [], _∷_, _++_}
 use Prim.Native.Nat.{ℕ, _^_, _≤_, _<_}
 use native.Mathlib.Omega.{arith}
 use lib.Dec.{eqb, leb}
 use lib.ListN.{length, getD, drop}
-use types.Run.{OneOf}
-use denote.Enum.Declared.{tagOf}
 use borrow.Author.Tests.{le-leb, lt-leb, leb-true, eqb-true, eqb-false}
 use Rattle.laws.proofs.OfTests.{both, by-test}
 use Rattle.units.specs.Units.{words}
@@ -29,7 +26,6 @@ use Rattle.fetch_codec.specs.declared.FetchDecoded.{FetchDecoded}
 use Rattle.fetch_codec.specs.declared.FetchDecoded.the-variants.{Outside, NotTaken, Taken}
 use Rattle.fetch_codec.specs.Fetch.{kindOf, formKind}
 use Rattle.fetch_codec.specs.Buffer.{decodeOf, decodedVerdict, encodeAnswer, encodeWords}
-use Rattle.fetch_codec.proofs.FetchDecoded as decoded-type
 use Rattle.fetch_codec.proofs.RoundTrip.{words-again, record-again-at}
 use Rattle.codec_for_c.specs.Values.{formOf, roomy, rowLength, rowAnswer, written}
 use Rattle.codec_for_c.specs.FetchValues.{fetchValues, fetchIn, isFetch, clauseNumber, isClause, clauseNumbered, fetchVerdict, fetchAfter, fetchNumber, fetchRow, fetchFrom, fetchFromNumber, fetchWords, FetchWordsAgain, FetchRowAgain}
@@ -37,12 +33,6 @@ use Rattle.codec_for_c.proofs.OfCodec.{roomy-yes, roomy-no}
 use Rattle.codec_for_c.proofs.OfValues.{values-first, done-with, written-roomy}
 
 -- ---- decoding
-
--- where the code knows that the decoder gave no record, which has tag 2, its refusal is the answer and changes nothing
-refusal : (d : FetchDecoded) (vs : List ℕ) → OneOf (0 ∷ 1 ∷ []) (tagOf decoded-type.the-type d) → (decodedVerdict d ≡ fetchVerdict d vs) × (vs ≡ fetchAfter d vs)
-refusal Outside vs h = (refl, refl)
-refusal NotTaken vs h = (refl, refl)
-refusal (Taken f) vs h = absurd (⊎-elim (λ p. omega arith) (λ p. omega arith) h)
 
 clause-yes : (kind : ℕ) → 1 ≤ kind → kind ≤ 3 → isClause kind ≡ true
 unfolding isClause
@@ -69,10 +59,11 @@ module _ (kind : ℕ) (l : List ℕ) (start : ℕ) (vs : List ℕ) where
         let k : a ≡ decodeOf (clauseNumbered kind) l (words start) = sym g ∙ f ∙ ap (λ (x : Clause). decodeOf x l (words start)) e in
         (rw is (h ∙ ap (λ (x : FetchDecoded). verdictNumber (fetchVerdict x vs)) k), rw is (p ∙ ap (λ (x : FetchDecoded). fetchAfter x vs) k))
 
-    pub decode-refused : (n : ℕ) → OneOf (0 ∷ 1 ∷ []) (tagOf decoded-type.the-type d) → n ≡ verdictNumber (decodedVerdict d) → (n ≡ fetchNumber kind l start vs) × (vs ≡ fetchRow kind l start vs)
-    decode-refused n g h =
-        let k = refusal d vs g in
-        answered d n vs refl (h ∙ ap verdictNumber (k .0)) (k .1)
+    pub decode-outside : (n : ℕ) → d ≡ Outside → n ≡ verdictNumber (decodedVerdict Outside) → (n ≡ fetchNumber kind l start vs) × (vs ≡ fetchRow kind l start vs)
+    decode-outside n g h = answered Outside n vs g h refl
+
+    pub decode-not-taken : (n : ℕ) → d ≡ NotTaken → n ≡ verdictNumber (decodedVerdict NotTaken) → (n ≡ fetchNumber kind l start vs) × (vs ≡ fetchRow kind l start vs)
+    decode-not-taken n g h = answered NotTaken n vs g h refl
 
     pub decode-taken : (g : Fetch) (x : Encoded) (n : ℕ) (m : List ℕ) → d ≡ Taken g → x ≡ rowAnswer vs → m ≡ fetchAfter (Taken g) vs → n ≡ verdictNumber (encodedVerdict x) → (n ≡ fetchNumber kind l start vs) × (m ≡ fetchRow kind l start vs)
     decode-taken g x n m p h q r = answered (Taken g) n m p (r ∙ ap (λ (y : Encoded). verdictNumber (encodedVerdict y)) h) q

@@ -1,4 +1,7 @@
-// The values of a fetch, form by form: the form, the fields of word 0, those of word 1, those of word 2.
+// The values of a fetch, form by form: the form, the fields of word 0, those of word 1, those of word 2. Each form goes from its words to its
+// values by itself, so that nothing has to ask for the form again.
+use crate::ROW;
+use crate::put;
 use formats::tex::TexWord0;
 use formats::tex::TexWord1;
 use formats::tex::TexWord2;
@@ -6,10 +9,62 @@ use formats::vtx::VtxWord0;
 use formats::vtx::VtxWord1Gpr;
 use formats::vtx::VtxWord1Sem;
 use formats::vtx::VtxWord2;
+use microcode::Encoded;
 ghost use mathlib.Core.Path.{_≡_};
-ghost use Rattle.codec_for_c.specs.FetchValues.{texValues, vtxGprValues, vtxSemValues};
+ghost use Rattle.fetch_codec.specs.declared.Found.the-variants as found;
+ghost use Rattle.fetch_codec.specs.Buffer.{decodedFrom};
+ghost use Rattle.codec_for_c.specs.Values.{rowAnswer};
+ghost use Rattle.codec_for_c.specs.FetchValues.{texValues, vtxGprValues, vtxSemValues, fetchAfter};
 
-pub(crate) fn tex_row(a: TexWord0, b: TexWord1, c: TexWord2) -> [u32; 30]
+// The values of a texture fetch's words, where there is room.
+pub(crate) fn write_tex(word0: u32, word1: u32, word2: u32, values: &mut [u32]) -> Encoded
+    ensures { λ r. ⌜ r ≡ rowAnswer (now (values .entry)) ⌝ }
+    ensures { λ _. ⌜ now (values .exit) ≡ fetchAfter (decodedFrom (found.Tex word0 word1 word2)) (now (values .entry)) ⌝ }
+{
+    let room = values.len();
+    if room < ROW {
+        return Encoded::NoRoom;
+    }
+    let a = formats::tex::read_word0(word0);
+    let b = formats::tex::read_word1(word1);
+    let c = formats::tex::read_word2(word2);
+    put(&tex_row(a, b, c), values);
+    Encoded::Done
+}
+
+// The values of a vertex fetch with a register's words, where there is room.
+pub(crate) fn write_vtx_gpr(word0: u32, word1: u32, word2: u32, values: &mut [u32]) -> Encoded
+    ensures { λ r. ⌜ r ≡ rowAnswer (now (values .entry)) ⌝ }
+    ensures { λ _. ⌜ now (values .exit) ≡ fetchAfter (decodedFrom (found.VtxGpr word0 word1 word2)) (now (values .entry)) ⌝ }
+{
+    let room = values.len();
+    if room < ROW {
+        return Encoded::NoRoom;
+    }
+    let a = formats::vtx::read_word0(word0);
+    let b = formats::vtx::read_gpr(word1);
+    let c = formats::vtx::read_word2(word2);
+    put(&vtx_gpr_row(a, b, c), values);
+    Encoded::Done
+}
+
+// The values of a semantic one's words, where there is room.
+pub(crate) fn write_vtx_sem(word0: u32, word1: u32, word2: u32, values: &mut [u32]) -> Encoded
+    ensures { λ r. ⌜ r ≡ rowAnswer (now (values .entry)) ⌝ }
+    ensures { λ _. ⌜ now (values .exit) ≡ fetchAfter (decodedFrom (found.VtxSem word0 word1 word2)) (now (values .entry)) ⌝ }
+{
+    let room = values.len();
+    if room < ROW {
+        return Encoded::NoRoom;
+    }
+    let a = formats::vtx::read_word0(word0);
+    let b = formats::vtx::read_sem(word1);
+    let c = formats::vtx::read_word2(word2);
+    put(&vtx_sem_row(a, b, c), values);
+    Encoded::Done
+}
+
+fn tex_row(a: TexWord0, b: TexWord1, c: TexWord2) -> [u32; 30]
     ensures { λ r. ⌜ r ≡ texValues a b c ⌝ }
 {
     [
@@ -46,7 +101,7 @@ pub(crate) fn tex_row(a: TexWord0, b: TexWord1, c: TexWord2) -> [u32; 30]
     ]
 }
 
-pub(crate) fn vtx_gpr_row(a: VtxWord0, b: VtxWord1Gpr, c: VtxWord2) -> [u32; 27]
+fn vtx_gpr_row(a: VtxWord0, b: VtxWord1Gpr, c: VtxWord2) -> [u32; 27]
     ensures { λ r. ⌜ r ≡ vtxGprValues a b c ⌝ }
 {
     [
@@ -80,7 +135,7 @@ pub(crate) fn vtx_gpr_row(a: VtxWord0, b: VtxWord1Gpr, c: VtxWord2) -> [u32; 27]
     ]
 }
 
-pub(crate) fn vtx_sem_row(a: VtxWord0, b: VtxWord1Sem, c: VtxWord2) -> [u32; 26]
+fn vtx_sem_row(a: VtxWord0, b: VtxWord1Sem, c: VtxWord2) -> [u32; 26]
     ensures { λ r. ⌜ r ≡ vtxSemValues a b c ⌝ }
 {
     [

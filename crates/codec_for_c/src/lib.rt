@@ -6,8 +6,8 @@ mod records;
 mod rows;
 
 use fetch_codec::Clause;
-use fetch_codec::Fetch;
 use fetch_codec::FetchDecoded;
+use fetch_codec::Found;
 use microcode::Decoded;
 use microcode::Encoded;
 use microcode::Instruction;
@@ -20,14 +20,13 @@ ghost use Rattle.checks.specs.Verdict.{verdictNumber};
 ghost use Rattle.microcode.specs.declared.Decoded.the-variants as decoded;
 ghost use Rattle.microcode.specs.Pair.{streamOf};
 ghost use Rattle.microcode.specs.Buffer.{decodedVerdict, encodedVerdict};
-ghost use Rattle.fetch_codec.specs.declared.FetchDecoded.the-variants as fetch;
 ghost use Rattle.fetch_codec.specs.Fetch.{kindOf, formKind};
 ghost use Rattle.fetch_codec.specs.Buffer as fetches;
 ghost use Rattle.codec_for_c.specs.Values.{rowLength, streamNumber, streamNumbered, rowAnswer, rowAfter, decodedNumber, decodedValues, written, valuesOf, recordOf, encodedNumber, encodedWords, WordsAgain, RowAgain};
-ghost use Rattle.codec_for_c.specs.FetchValues.{clauseNumber, clauseNumbered, fetchValues, fetchIn, fetchAfter, fetchNumber, fetchRow, fetchFromNumber, fetchWords, FetchWordsAgain, FetchRowAgain};
+ghost use Rattle.codec_for_c.specs.FetchValues.{clauseNumber, clauseNumbered, fetchIn, fetchNumber, fetchRow, fetchFromNumber, fetchWords, FetchWordsAgain, FetchRowAgain};
 
 // A row has as many elements or more, whatever its form.
-const ROW: usize = 32;
+pub(crate) const ROW: usize = 32;
 
 // The pair at word `start`, control flow where `stream` is 0 and ALU where it is 1, as values. 21 where it is neither; 2, 4 and 11 are the
 // decoder's; 20 where `values` has fewer than 32 elements. After a 0 the row encodes to the same words again.
@@ -90,11 +89,20 @@ pub extern "C" fn zlatomruk_decode_fetch(
     if 3 < kind {
         return encoded_number(Encoded::NoRecord);
     }
-    let d = fetch_codec::decode(words, Words(start), clause_numbered(kind));
-    let FetchDecoded::Taken(f) = d else {
-        return fetch_number(d);
-    };
-    encoded_number(write_fetch(f, values))
+    let found = fetch_codec::find(words, Words(start), clause_numbered(kind));
+    match found {
+        Found::Outside => fetch_number(FetchDecoded::Outside),
+        Found::NotTaken => fetch_number(FetchDecoded::NotTaken),
+        Found::Tex(word0, word1, word2) => {
+            encoded_number(fetch_rows::write_tex(word0, word1, word2, values))
+        }
+        Found::VtxGpr(word0, word1, word2) => {
+            encoded_number(fetch_rows::write_vtx_gpr(word0, word1, word2, values))
+        }
+        Found::VtxSem(word0, word1, word2) => {
+            encoded_number(fetch_rows::write_vtx_sem(word0, word1, word2, values))
+        }
+    }
 }
 
 // The fetch that the values hold, as four words at word `start`. 21 where it can't be encoded, or 32 elements or the form are missing; 20
@@ -185,32 +193,8 @@ fn fill(i: Instruction, values: &mut [u32])
     }
 }
 
-// The same of a fetch.
-fn write_fetch(f: Fetch, values: &mut [u32]) -> Encoded
-    ensures { λ r. ⌜ r ≡ rowAnswer (now (values .entry)) ⌝ }
-    ensures { λ r. ⌜ now (values .exit) ≡ fetchAfter (fetch.Taken f) (now (values .entry)) ⌝ }
-{
-    let room = values.len();
-    if room < ROW {
-        return Encoded::NoRoom;
-    }
-    fill_fetch(f, values);
-    Encoded::Done
-}
-
-fn fill_fetch(f: Fetch, values: &mut [u32])
-    requires { ⌜ rowLength ≤ length (now values) ⌝ }
-    ensures { λ r. ⌜ now (values .exit) ≡ written (fetchValues f) (now (values .entry)) ⌝ }
-{
-    match f {
-        Fetch::Tex(a, b, c) => put(&fetch_rows::tex_row(a, b, c), values),
-        Fetch::VtxGpr(a, b, c) => put(&fetch_rows::vtx_gpr_row(a, b, c), values),
-        Fetch::VtxSem(a, b, c) => put(&fetch_rows::vtx_sem_row(a, b, c), values),
-    }
-}
-
 // A row over the beginning of `values`.
-fn put(row: &[u32], values: &mut [u32])
+pub(crate) fn put(row: &[u32], values: &mut [u32])
     requires { ⌜ length (now row) ≤ length (now values) ⌝ }
     ensures { λ r. ⌜ now (values .exit) ≡ written (now (row .entry)) (now (values .entry)) ⌝ }
 {

@@ -1,5 +1,5 @@
 -- Decoding and encoding a fetch at a start, by what the code tests. Assumes nothing.
-use mathlib.Core.Path.{_≡_, sym, ap, _∙_}
+use mathlib.Core.Path.{_≡_, refl, ap, _∙_}
 use mathlib.Core.Bool.{Bool, true, false, not, cond}
 use mathlib.Core.List.{List, [], _∷_, _++_}
 use Prim.Native.Nat.{ℕ, _+_, _-_, _≤_, _<_}
@@ -8,19 +8,24 @@ use lib.ListN.{length, getD, take, drop, take-append-drop}
 use lib.Seq.{sets}
 use borrow.Author.Tests.{le-leb, lt-leb, not-true, not-false}
 use borrow.Rule.Slice.PartMut.{putMid}
+use Rattle.laws.proofs.OfTests.{by-test}
 use Rattle.laws.proofs.OfLists.{to-the-end}
 use Rattle.units.specs.declared.Words.{Words}
 use Rattle.opcodes.specs.declared.cf.FetchKind.{FetchKind}
+use Rattle.opcodes.specs.declared.cf.FetchKind.the-variants.{Vertex, Texture}
+use Rattle.formats.specs.Fields.{_of_, «FETCH_INST»}
+use Rattle.fetches.specs.Fetches.{badFetch, isSemantic}
 use Rattle.microcode.specs.declared.Encoded.{Encoded}
 use Rattle.microcode.specs.declared.Encoded.the-variants.{NoRecord, NoRoom, Done}
 use Rattle.microcode.proofs.OfCodec.{back-again, stored-at, part-fits}
 use Rattle.fetch_codec.specs.declared.Fetch.{Fetch}
 use Rattle.fetch_codec.specs.declared.Clause.{Clause}
-use Rattle.fetch_codec.specs.declared.FetchDecoded.{FetchDecoded}
-use Rattle.fetch_codec.specs.declared.FetchDecoded.the-variants.{Outside}
+use Rattle.fetch_codec.specs.declared.FetchDecoded.the-variants.{Taken}
+use Rattle.fetch_codec.specs.declared.Found.{Found}
+use Rattle.fetch_codec.specs.declared.Found.the-variants as found
 use Rattle.fetch_codec.specs.declared.words.FetchWords.{FetchWords}
-use Rattle.fetch_codec.specs.Fetch.{kindOf, wordsOf}
-use Rattle.fetch_codec.specs.Buffer.{room, fourOf, decodeOf, writeAnswer, writeWords, encodeAnswer, encodeWords}
+use Rattle.fetch_codec.specs.Fetch.{kindOf, fetchOf, vertexOf, wordsOf}
+use Rattle.fetch_codec.specs.Buffer.{room, fourOf, decodeOf, foundIn, fourFound, foundOf, decodedFrom, writeAnswer, writeWords, encodeAnswer, encodeWords}
 use Rattle.fetch_codec.specs.Code.{putAnswer, putWords}
 
 roomy : (l : List ℕ) (start : ℕ) → start + 4 ≤ length l → room l start ≡ true
@@ -33,18 +38,40 @@ cramped l start h = lt-leb (start + 4) (length l) h
 
 -- ---- decoding
 
-module _ (clause : Clause) (l : List ℕ) (start : Words) where
-  pub decode-short : length l < start .0 + 4 → Outside ≡ decodeOf clause l start
-  unfolding decodeOf
-  decode-short h = rw (cramped l (start .0) h)
+-- the record of what was found is the decoded one
+found-in : (kind : FetchKind) (w0 w1 w2 : ℕ) → decodedFrom (foundIn kind w0 w1 w2) ≡ Taken (fetchOf kind w0 w1 w2)
+unfolding vertexOf
+found-in Texture w0 w1 w2 = refl
+found-in Vertex w0 w1 w2 = by-test (isSemantic Vertex («FETCH_INST» of w0)) (λ t. rw t) (λ t. rw t)
 
-  pub decode-four : (kind : FetchKind) (d : FetchDecoded) → start .0 + 4 ≤ length l → kind ≡ kindOf clause
-      → d ≡ fourOf kind (getD l (start .0) 0) (getD l (start .0 + 1) 0) (getD l (start .0 + 2) 0) (getD l (start .0 + 3) 0)
-      → d ≡ decodeOf clause l start
-  unfolding decodeOf
-  decode-four kind d h e p =
-      rw (roomy l (start .0) h)
-      (p ∙ ap (λ (k : FetchKind). fourOf k (getD l (start .0) 0) (getD l (start .0 + 1) 0) (getD l (start .0 + 2) 0) (getD l (start .0 + 3) 0)) e)
+four-found : (kind : FetchKind) (w0 w1 w2 w3 : ℕ) → decodedFrom (fourFound kind w0 w1 w2 w3) ≡ fourOf kind w0 w1 w2 w3
+unfolding fourFound fourOf
+four-found kind w0 w1 w2 w3 = by-test (badFetch kind («FETCH_INST» of w0) w3) (λ t. rw t) (λ t. rw t (found-in kind w0 w1 w2))
+
+module _ (clause : Clause) (l : List ℕ) (start : Words) where
+  pub decode-found : decodedFrom (foundOf clause l start) ≡ decodeOf clause l start
+  unfolding decodeOf foundOf
+  decode-found =
+      by-test (room l (start .0))
+      (λ t. rw t (four-found (kindOf clause) (getD l (start .0) 0) (getD l (start .0 + 1) 0) (getD l (start .0 + 2) 0) (getD l (start .0 + 3) 0)))
+      (λ t. rw t)
+
+  -- so what was found promises both
+  found-both : (r : Found) → r ≡ foundOf clause l start → (r ≡ foundOf clause l start) × (decodedFrom r ≡ decodeOf clause l start)
+  found-both r e = (e, ap decodedFrom e ∙ decode-found)
+
+  pub find-short : length l < start .0 + 4 → (found.Outside ≡ foundOf clause l start) × (decodedFrom found.Outside ≡ decodeOf clause l start)
+  unfolding foundOf
+  find-short h = found-both found.Outside (rw (cramped l (start .0) h))
+
+  pub find-four : (kind : FetchKind) (r : Found) → start .0 + 4 ≤ length l → kind ≡ kindOf clause
+      → r ≡ fourFound kind (getD l (start .0) 0) (getD l (start .0 + 1) 0) (getD l (start .0 + 2) 0) (getD l (start .0 + 3) 0)
+      → (r ≡ foundOf clause l start) × (decodedFrom r ≡ decodeOf clause l start)
+  unfolding foundOf
+  find-four kind r h e p =
+      found-both r
+      (rw (roomy l (start .0) h)
+      (p ∙ ap (λ (k : FetchKind). fourFound k (getD l (start .0) 0) (getD l (start .0 + 1) 0) (getD l (start .0 + 2) 0) (getD l (start .0 + 3) 0)) e))
 
 -- ---- encoding
 

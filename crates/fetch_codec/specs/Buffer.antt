@@ -11,12 +11,18 @@ use Rattle.units.specs.declared.Words.{Words}
 use Rattle.checks.specs.declared.Verdict.{Verdict}
 use Rattle.checks.specs.declared.Verdict.the-variants.{Accepted}
 use Rattle.opcodes.specs.declared.cf.FetchKind.{FetchKind}
+use Rattle.opcodes.specs.declared.cf.FetchKind.the-variants.{Vertex, Texture}
 use Rattle.formats.specs.Fields.{_of_, «FETCH_INST»}
-use Rattle.fetches.specs.Fetches.{badFetch}
+use Rattle.formats.specs.Tex as tex
+use Rattle.formats.specs.Vtx as vtx
+use Rattle.fetches.specs.Fetches.{badFetch, isSemantic}
 use Rattle.microcode.specs.declared.Encoded.{Encoded}
 use Rattle.microcode.specs.declared.Encoded.the-variants.{Done}
 use Rattle.microcode.specs.Buffer.{answerFor, numberFor, refused}
 use Rattle.fetch_codec.specs.declared.Fetch.{Fetch}
+use Rattle.fetch_codec.specs.declared.Fetch.the-variants.{Tex, VtxGpr, VtxSem}
+use Rattle.fetch_codec.specs.declared.Found.{Found}
+use Rattle.fetch_codec.specs.declared.Found.the-variants as found
 use Rattle.fetch_codec.specs.declared.Clause.{Clause}
 use Rattle.fetch_codec.specs.declared.FetchDecoded.{FetchDecoded}
 use Rattle.fetch_codec.specs.declared.FetchDecoded.the-variants.{Outside, NotTaken, Taken}
@@ -39,6 +45,29 @@ decodeOf clause l start =
     cond (room l (start .0))
     (fourOf (kindOf clause) (getD l (start .0) 0) (getD l (start .0 + 1) 0) (getD l (start .0 + 2) 0) (getD l (start .0 + 3) 0))
     Outside
+
+-- ---- which form stands there, with the first three words, before a field is read
+
+abbrev pub foundIn : FetchKind → ℕ → ℕ → ℕ → Found
+foundIn Texture w0 w1 w2 = found.Tex w0 w1 w2
+foundIn Vertex w0 w1 w2 = cond (isSemantic Vertex («FETCH_INST» of w0)) (found.VtxSem w0 w1 w2) (found.VtxGpr w0 w1 w2)
+
+unfoldable pub fourFound : FetchKind → ℕ → ℕ → ℕ → ℕ → Found
+fourFound kind w0 w1 w2 w3 = cond (badFetch kind («FETCH_INST» of w0) w3) found.NotTaken (foundIn kind w0 w1 w2)
+
+unfoldable pub foundOf : Clause → List ℕ → Words → Found
+foundOf clause l start =
+    cond (room l (start .0))
+    (fourFound (kindOf clause) (getD l (start .0) 0) (getD l (start .0 + 1) 0) (getD l (start .0 + 2) 0) (getD l (start .0 + 3) 0))
+    found.Outside
+
+-- the record that was found
+abbrev pub decodedFrom : Found → FetchDecoded
+decodedFrom found.Outside = Outside
+decodedFrom found.NotTaken = NotTaken
+decodedFrom (found.Tex w0 w1 w2) = Taken (Tex (tex.word0Of w0) (tex.word1Of w1) (tex.word2Of w2))
+decodedFrom (found.VtxGpr w0 w1 w2) = Taken (VtxGpr (vtx.word0Of w0) (vtx.gprOf w1) (vtx.word2Of w2))
+decodedFrom (found.VtxSem w0 w1 w2) = Taken (VtxSem (vtx.word0Of w0) (vtx.semOf w1) (vtx.word2Of w2))
 
 -- ---- encoding
 

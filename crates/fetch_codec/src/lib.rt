@@ -20,7 +20,7 @@ ghost use mathlib.Core.Path.{_≡_};
 ghost use Rattle.microcode.specs.declared.Encoded.the-variants.{Done};
 ghost use Rattle.microcode.specs.Buffer.{Answers, encodedVerdict};
 ghost use Rattle.fetch_codec.specs.Fetch.{kindOf, formKind};
-ghost use Rattle.fetch_codec.specs.Buffer.{decodeOf, encodeAnswer, encodeWords, writeAnswer, writeWords, Rewritten, decodedVerdict, decodeNumber, encodeNumber, writeNumber};
+ghost use Rattle.fetch_codec.specs.Buffer.{decodeOf, foundOf, decodedFrom, encodeAnswer, encodeWords, writeAnswer, writeWords, Rewritten, decodedVerdict, decodeNumber, encodeNumber, writeNumber};
 ghost use Rattle.fetch_codec.specs.Code.{putAnswer, putWords};
 
 // The three forms of a fetch.
@@ -48,6 +48,16 @@ pub enum FetchDecoded {
     Taken(Fetch),
 }
 
+// What stands at a start: a fetch by its form, with its first three words as they are. Who needs the fields of one form only reads them from
+// these, and a record that could be of any form is never made.
+pub enum Found {
+    Outside,
+    NotTaken,
+    Tex(u32, u32, u32),
+    VtxGpr(u32, u32, u32),
+    VtxSem(u32, u32, u32),
+}
+
 pub fn kind_of(clause: Clause) -> FetchKind
     ensures { λ r. ⌜ r ≡ kindOf clause ⌝ }
 {
@@ -65,18 +75,26 @@ pub fn decode(words: &[u32], start: Words, clause: Clause) -> FetchDecoded
     ensures { λ r. ⌜ ((f : Fetch) → r ≡ FetchDecoded.Taken f → Rewritten f (now (words .entry)) start) ⌝ }
     ensures { λ r. ⌜ Answers (decodedVerdict r) (decodeNumber clause (now (words .entry)) start) ⌝ }
 {
+    four::decoded(find(words, start, clause))
+}
+
+// The form of the fetch at `start`, which may be any number, and its words.
+pub fn find(words: &[u32], start: Words, clause: Clause) -> Found
+    ensures { λ r. ⌜ r ≡ foundOf clause (now (words .entry)) start ⌝ }
+    ensures { λ r. ⌜ decodedFrom r ≡ decodeOf clause (now (words .entry)) start ⌝ }
+{
     let at = start.0;
     if words.len() < 4 {
-        return FetchDecoded::Outside;
+        return Found::Outside;
     }
     if words.len() - 4 < at {
-        return FetchDecoded::Outside;
+        return Found::Outside;
     }
     let word0 = words[at];
     let word1 = words[at + 1];
     let word2 = words[at + 2];
     let word3 = words[at + 3];
-    four::fetch_of(kind_of(clause), word0, word1, word2, word3)
+    four::found_in(kind_of(clause), word0, word1, word2, word3)
 }
 
 // The words of `f` at `start`, which may be any number; the part from there on is lent on. Every other word stays, a refusal writes
