@@ -24,6 +24,8 @@ fn judge_proved(words: &[u32], start: usize, slots: usize, s: &Setting) -> (u32,
     proved::alu_clause(words, start, slots, s.push_before, s.kind, s.gprs, s.temps, s.consts, s.mode0, s.mode1)
 }
 
+type Judge = fn(&[u32], usize, usize, &Setting) -> (u32, usize);
+
 fn main() {
     compare();
     time();
@@ -74,12 +76,13 @@ fn time() {
         for words in &clauses {
             assert_eq!(judge_plain(words, 0, SLOTS, &setting), (0, 0), "a clause made to be accepted");
         }
-        let all = |judge: fn(&[u32], usize, usize, &Setting) -> (u32, usize)| {
+        let all = |judge: Judge| {
             for words in clauses.iter().cycle().take(CLAUSES * REPEATS) {
                 black_box(judge(black_box(words), 0, SLOTS, black_box(&setting)));
             }
         };
-        let (plain, proved) = timing::race(ROUNDS, || all(judge_plain), || all(judge_proved));
+        let judges: (Judge, Judge) = (judge_plain, judge_proved);
+        let (plain, proved) = timing::race(ROUNDS, judges, all);
         let each = (CLAUSES * REPEATS) as f64;
         println!(
             "{SLOTS} slots, push_before {push_before}: plain {:.0} ns, proved {:.0} ns, proved / plain {:.2}",

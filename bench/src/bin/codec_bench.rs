@@ -15,6 +15,9 @@ const ROWS: usize = 2_000_000;
 const TIMED: usize = 4096;
 const ROUNDS: usize = 1000;
 
+type Decode = fn(&[u32], usize, u32, &mut [u32]) -> u32;
+type Encode = fn(&[u32], &mut [u32], usize) -> u32;
+
 fn main() {
     let random = &mut Random::new(2011);
     let mut decoded = Tally::default();
@@ -77,31 +80,20 @@ fn compare_encode(values: &[u32], random: &mut Random) -> u32 {
     answer
 }
 
-/// The archive's functions are not inlined into the loop, so neither are these.
-#[inline(never)]
-fn plain_decode(words: &[u32], start: usize, stream: u32, values: &mut [u32]) -> u32 {
-    plain::codec::decode(words, start, stream, values)
-}
-
-#[inline(never)]
-fn plain_encode(values: &[u32], words: &mut [u32], start: usize) -> u32 {
-    plain::codec::encode(values, words, start)
-}
-
 fn time(stream: u32, random: &mut Random) {
     let words: Vec<u32> = (0..TIMED).flat_map(|_| taken(stream, random)).collect();
     let mut rows = vec![[0; VALUES]; TIMED];
     for (pair, values) in rows.iter_mut().enumerate() {
         assert_eq!(plain::codec::decode(&words, 2 * pair, stream, values), 0, "a pair made to be taken");
     }
-    let decode_all = |decode: fn(&[u32], usize, u32, &mut [u32]) -> u32| {
+    let decode_all = |decode: Decode| {
         let mut values = [0; VALUES];
         for pair in 0..TIMED {
             black_box(decode(black_box(&words), 2 * pair, stream, &mut values));
             black_box(&values);
         }
     };
-    let encode_all = |encode: fn(&[u32], &mut [u32], usize) -> u32| {
+    let encode_all = |encode: Encode| {
         let mut out = [0; 2];
         for values in &rows {
             black_box(encode(black_box(values), &mut out, 0));
@@ -109,8 +101,10 @@ fn time(stream: u32, random: &mut Random) {
         }
     };
     let name = if stream == 0 { "control flow" } else { "ALU" };
-    report("decode", name, timing::race(ROUNDS, || decode_all(plain_decode), || decode_all(proved::decode)));
-    report("encode", name, timing::race(ROUNDS, || encode_all(plain_encode), || encode_all(proved::encode)));
+    let decoders: (Decode, Decode) = (plain::codec::decode, proved::decode);
+    let encoders: (Encode, Encode) = (plain::codec::encode, proved::encode);
+    report("decode", name, timing::race(ROUNDS, decoders, decode_all));
+    report("encode", name, timing::race(ROUNDS, encoders, encode_all));
 }
 
 fn report(what: &str, name: &str, (plain, proved): (f64, f64)) {

@@ -20,6 +20,9 @@ const ROUNDS: usize = 1000;
 const MIXED: usize = 1_000_000;
 const MIXED_ROUNDS: usize = 20;
 
+type Decode = fn(&[u32], usize, u32, &mut [u32]) -> u32;
+type Encode = fn(&[u32], &mut [u32], usize) -> u32;
+
 fn main() {
     let random = &mut Random::new(2011);
     let mut decoded = Tally::default();
@@ -82,17 +85,6 @@ fn compare_encode(values: &[u32], random: &mut Random) -> u32 {
     answer
 }
 
-/// The archive's functions are not inlined into the loop, so neither are these.
-#[inline(never)]
-fn plain_decode(words: &[u32], start: usize, kind: u32, values: &mut [u32]) -> u32 {
-    plain::fetch_codec::decode(words, start, kind, values)
-}
-
-#[inline(never)]
-fn plain_encode(values: &[u32], words: &mut [u32], start: usize) -> u32 {
-    plain::fetch_codec::encode(values, words, start)
-}
-
 fn time(name: &str, of: &[u32], count: usize, rounds: usize, random: &mut Random) {
     let kinds: Vec<u32> = (0..count).map(|_| random.pick(of)).collect();
     let words: Vec<u32> = kinds.iter().flat_map(|&kind| taken(kind, random)).collect();
@@ -100,14 +92,14 @@ fn time(name: &str, of: &[u32], count: usize, rounds: usize, random: &mut Random
     for (index, (&kind, values)) in kinds.iter().zip(&mut rows).enumerate() {
         assert_eq!(plain::fetch_codec::decode(&words, 4 * index, kind, values), 0, "a fetch made to be taken");
     }
-    let decode_all = |decode: fn(&[u32], usize, u32, &mut [u32]) -> u32| {
+    let decode_all = |decode: Decode| {
         let mut values = [0; VALUES];
         for (index, &kind) in kinds.iter().enumerate() {
             black_box(decode(black_box(&words), 4 * index, kind, &mut values));
             black_box(&values);
         }
     };
-    let encode_all = |encode: fn(&[u32], &mut [u32], usize) -> u32| {
+    let encode_all = |encode: Encode| {
         let mut out = [0; 4];
         for values in &rows {
             black_box(encode(black_box(values), &mut out, 0));
@@ -115,8 +107,10 @@ fn time(name: &str, of: &[u32], count: usize, rounds: usize, random: &mut Random
         }
     };
     let each = |(plain, proved): (f64, f64)| (plain / count as f64, proved / count as f64);
-    report("decode", name, each(timing::race(rounds, || decode_all(plain_decode), || decode_all(proved::decode_fetch))));
-    report("encode", name, each(timing::race(rounds, || encode_all(plain_encode), || encode_all(proved::encode_fetch))));
+    let decoders: (Decode, Decode) = (plain::fetch_codec::decode, proved::decode_fetch);
+    let encoders: (Encode, Encode) = (plain::fetch_codec::encode, proved::encode_fetch);
+    report("decode", name, each(timing::race(rounds, decoders, decode_all)));
+    report("encode", name, each(timing::race(rounds, encoders, encode_all)));
 }
 
 fn report(what: &str, name: &str, (plain, proved): (f64, f64)) {

@@ -34,7 +34,8 @@ fn race(name: &str, (card, words): Input, repeats: usize) {
             black_box(judge(black_box(&card), black_box(&words)));
         }
     };
-    let (plain, proved) = timing::race(ROUNDS, || all(plain::judge), || all(proved::judge));
+    let judges: (Judge, Judge) = (plain::judge, proved::judge);
+    let (plain, proved) = timing::race(ROUNDS, judges, all);
     let each = repeats as f64;
     println!("{name}: plain {:.0} ns, proved {:.0} ns, proved / plain {:.2}", plain / each, proved / each, proved / plain);
 }

@@ -2,13 +2,13 @@
 use mathlib.Core.Path.{_≡_, sym, ap, ap₂, _∙_, subst}
 use mathlib.Core.Logic.{_⊎_, ⊎-elim}
 use Prim.Native.Nat.{ℕ, _+_, _-_, _*_, _/_, _%_, _^_, _≤_, _<_, max}
-use native.Mathlib.Nat.{add-zero, zero-add, zero-mul, div-eq-of-lt, lt-of-lt-of-le, add-mul, mul-assoc, mul-comm, add-assoc, add-comm, mod-lt, mod-mod, mod-eq-of-lt, sub-add-cancel}
+use native.Mathlib.Nat.{add-zero, zero-add, zero-mul, div-eq-of-lt, lt-of-lt-of-le, add-mul, mul-assoc, mul-comm, add-assoc, add-comm, mod-lt, mod-mod, mod-eq-of-lt, mul-mod-left, sub-add-cancel}
 use native.Mathlib.Omega.{arith}
 use lib.Bits.{bitOr, or-step, or-zero-r, or-block}
 use lib.Pow.{pow-pos, pow-add, pow-mono, shl-exact, shr-lt, shr-shr, split, high, low, field, mod-pow-add, mod-mod-pow}
 use lib.Arith.{digits-lt}
 use Rattle.bits.specs.Fields.{fieldOf}
-use Rattle.bits.specs.Code.{withField}
+use Rattle.bits.specs.Code.{liftedOf, withField}
 
 -- the sum behind `withField`, before it is cut to 32 bits
 abbrev pub spliced : ℕ → ℕ → ℕ → ℕ → ℕ
@@ -92,6 +92,15 @@ module _ (n o w : ℕ) (h : n < 2 ^ 32) (l : o + w ≤ 32) where
       ∙ split n (o + w)
 
 -- ---- a field that is not wholly in the word
+
+-- what is moved up by 32 or more leaves nothing in the word
+pub lost : (n o : ℕ) → 32 ≤ o → 0 ≡ liftedOf n o
+lost n o l =
+    sym
+    (ap (liftedOf n) (sym (sub-add-cancel l))
+    ∙ ap (λ (x : ℕ). n * x % 2 ^ 32) (pow-add 2 (o - 32) 32)
+    ∙ ap (λ (x : ℕ). x % 2 ^ 32) (sym (mul-assoc n (2 ^ (o - 32)) (2 ^ 32)))
+    ∙ mul-mod-left (n * 2 ^ (o - 32)) (2 ^ 32))
 
 -- a field that ends behind bit 31 leaves nothing above it
 pub no-top : (n o w v : ℕ) → n < 2 ^ 32 → 32 ≤ o + w → withField n o w v ≡ (v % 2 ^ w * 2 ^ o + n % 2 ^ o) % 2 ^ 32

@@ -15,6 +15,7 @@ use Rattle.laws.proofs.OfTests.{both}
 use Rattle.bits.specs.declared.Bits.{Bits}
 use Rattle.bits.specs.Fields.{fieldOf, widthOf}
 use Rattle.bits.specs.Tables.{placeOf, total, split, join, within, fieldsOf, wordOf, fitsTable, fillsWord}
+use Rattle.bits.specs.Code.{liftedOf}
 
 -- ---- the same rows as digits of a number, lowest first, with no offset
 
@@ -133,6 +134,21 @@ joined-from acc o (w ∷ ws) (v ∷ vs) h l =
 pub joined-join : (ws vs : List ℕ) → total ws ≤ 32 → joined 0 0 ws vs ≡ join 0 ws vs
 joined-join ws vs l = joined-from 0 0 ws vs (pow-pos 0) (omega arith) ∙ zero-add (join 0 ws vs)
 
+-- the same of values as they are: `lift(a, 21:0) | lift(b, 25:22) | ..`
+abbrev pub lifted : ℕ → ℕ → List ℕ → List ℕ → ℕ
+lifted acc o [] vs = acc
+lifted acc o (w ∷ ws) [] = acc
+lifted acc o (w ∷ ws) (v ∷ vs) = lifted (bitOr acc (liftedOf v o)) (o + w) ws vs
+
+-- of values within their widths it makes the same word
+lifted-joined : (acc o : ℕ) (ws vs : List ℕ) → within ws vs ≡ true → lifted acc o ws vs ≡ joined acc o ws vs
+lifted-joined acc o [] vs h = refl
+lifted-joined acc o (w ∷ ws) [] h = refl
+lifted-joined acc o (w ∷ ws) (v ∷ vs) h =
+    let cut : liftedOf v o ≡ placeOf v o w = ap (λ (x : ℕ). x * 2 ^ o % 2 ^ 32) (sym (mod-eq-of-lt (first-within w v ws vs h))) in
+    lifted-joined (bitOr acc (liftedOf v o)) (o + w) ws vs (rest-within w v ws vs h)
+    ∙ ap (λ (x : ℕ). joined (bitOr acc x) (o + w) ws vs) cut
+
 -- `(a < 0x400000) & (b < 0x10) & ..`, from t on
 abbrev pub tested : Bool → List ℕ → List ℕ → Bool
 tested t [] [] = t
@@ -190,6 +206,9 @@ module _ (fs : List Bits) (h : fillsWord 0 fs ≡ true) where
   -- what code joins by `|`
   pub joined-word : (vs : List ℕ) → joined 0 0 (map widthOf fs) vs ≡ wordOf fs vs
   joined-word vs = joined-join (map widthOf fs) vs (omega (arith, widths-32))
+
+  pub lifted-word : (vs : List ℕ) → fitsTable fs vs ≡ true → lifted 0 0 (map widthOf fs) vs ≡ wordOf fs vs
+  lifted-word vs f = lifted-joined 0 0 (map widthOf fs) vs f ∙ joined-word vs
 
 -- what code tests by `&`
 pub tested-fits : (fs : List Bits) (vs : List ℕ) → tested true (map widthOf fs) vs ≡ fitsTable fs vs

@@ -7,7 +7,7 @@ ghost use Prim.Native.Nat.{_^_};
 ghost use lib.Dec.{ltb};
 ghost use Rattle.bits.specs.Fields.{fieldOf, widthOf, valueIn};
 ghost use Rattle.bits.specs.Tables.{placeOf};
-ghost use Rattle.bits.specs.Code.{withField};
+ghost use Rattle.bits.specs.Code.{liftedOf, withField};
 
 // A field of a word, from its highest bit to its lowest, as the papers write 28:26.
 pub struct Bits(pub u32, pub u32);
@@ -37,6 +37,16 @@ pub fn put(value: u32, f: Bits) -> u32
     ensures { λ r. ⌜ r ≡ placeOf value (f .1) (widthOf f) ⌝ }
 {
     place(value, f.1, width_of(f))
+}
+
+// A value in its field's place, as it is: of one within the field's width what `put` makes, without the mask.
+pub fn lift(value: u32, f: Bits) -> u32
+    ensures { λ r. ⌜ r ≡ liftedOf value (f .1) ⌝ }
+{
+    if f.1 >= 32 {
+        return 0;
+    }
+    value << f.1
 }
 
 // Whether a value is within a field's width.

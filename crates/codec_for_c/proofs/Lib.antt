@@ -3,4 +3,5 @@ pub mod OfPut
 pub mod OfCodec
 pub mod OfValues
 pub mod OfFetches
+pub mod OfFetchWords
 pub mod Examples

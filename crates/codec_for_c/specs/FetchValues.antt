@@ -51,12 +51,18 @@ fetchValues (VtxSem a b c) = vtxSemValues a b c
 
 -- ---- values as a fetch: each field where `fetchValues` has it (`fetch-of-values`, proofs/OfFetches.antt)
 
+abbrev pub texIn : List ℕ → Fetch
+texIn vs = Tex (tex.word0At 1 vs) (tex.word1At 10 vs) (tex.word2At 22 vs)
+
+abbrev pub vtxGprIn : List ℕ → Fetch
+vtxGprIn vs = VtxGpr (vtx.word0At 1 vs) (vtx.gprAt 9 vs) (vtx.word2At 21 vs)
+
+abbrev pub vtxSemIn : List ℕ → Fetch
+vtxSemIn vs = VtxSem (vtx.word0At 1 vs) (vtx.semAt 9 vs) (vtx.word2At 20 vs)
+
 -- by the form; that it is from 5 to 7 is asked by `isFetch`
 unfoldable pub fetchIn : List ℕ → Fetch
-fetchIn vs =
-    cond (eqb (formOf vs) 5) (Tex (tex.word0At 1 vs) (tex.word1At 10 vs) (tex.word2At 22 vs))
-    (cond (eqb (formOf vs) 6) (VtxGpr (vtx.word0At 1 vs) (vtx.gprAt 9 vs) (vtx.word2At 21 vs))
-    (VtxSem (vtx.word0At 1 vs) (vtx.semAt 9 vs) (vtx.word2At 20 vs)))
+fetchIn vs = cond (eqb (formOf vs) 5) (texIn vs) (cond (eqb (formOf vs) 6) (vtxGprIn vs) (vtxSemIn vs))
 
 unfoldable pub isFetch : List ℕ → Bool
 isFetch vs = roomy vs && (leb 5 (formOf vs) && leb (formOf vs) 7)

@@ -1,6 +1,4 @@
 // The fetch that values hold, each field read where `fetch_rows` puts it.
-use fetch_codec::words;
-use fetch_codec::words::FetchWords;
 use formats::tex::TexWord0;
 use formats::tex::TexWord1;
 use formats::tex::TexWord2;
@@ -8,28 +6,68 @@ use formats::vtx::VtxWord0;
 use formats::vtx::VtxWord1Gpr;
 use formats::vtx::VtxWord1Sem;
 use formats::vtx::VtxWord2;
+use opcodes::cf::FetchKind;
 ghost use mathlib.Core.Path.{_≡_};
 ghost use Prim.Native.Nat.{_+_, _≤_};
 ghost use lib.ListN.{length};
 ghost use Rattle.formats.specs.Tex as tex;
 ghost use Rattle.formats.specs.Vtx as vtx;
-ghost use Rattle.fetch_codec.specs.Fetch.{wordsOf};
+ghost use Rattle.fetch_codec.specs.Fetch.{encodable};
 ghost use Rattle.codec_for_c.specs.Values.{rowLength};
-ghost use Rattle.codec_for_c.specs.FetchValues.{fetchIn};
+ghost use Rattle.codec_for_c.specs.FetchValues.{texIn, vtxGprIn, vtxSemIn};
 
-// The words of that fetch, by the form in element 0; a vertex fetch with a semantic id for any that the others are not.
-pub(crate) fn words_of(values: &[u32]) -> FetchWords
+// Whether the values, taken for a fetch of that form, are one that can be encoded: the number is one of the form, and each field is within its
+// width. The number goes first, the words one after the other.
+pub(crate) fn is_tex(values: &[u32]) -> bool
     requires { ⌜ rowLength ≤ length (now values) ⌝ }
-    ensures { λ r. ⌜ r ≡ wordsOf (fetchIn (now (values .entry))) ⌝ }
+    ensures { λ r. ⌜ r ≡ encodable (texIn (now (values .entry))) ⌝ }
 {
-    let form = values[0];
-    if form == 5 {
-        return words::of_tex(tex_word0(values), tex_word1(values), tex_word2(values));
+    if !opcodes::fetch_taken(FetchKind::Texture, values[1]) {
+        return false;
     }
-    if form == 6 {
-        return words::of_vtx_gpr(vtx_word0(values), vtx_gpr(values), vtx_word2(values, 21));
+    if !formats::tex::word0_fits(tex_word0(values)) {
+        return false;
     }
-    words::of_vtx_sem(vtx_word0(values), vtx_sem(values), vtx_word2(values, 20))
+    if !formats::tex::word1_fits(tex_word1(values)) {
+        return false;
+    }
+    formats::tex::word2_fits(tex_word2(values))
+}
+
+pub(crate) fn is_vtx_gpr(values: &[u32]) -> bool
+    requires { ⌜ rowLength ≤ length (now values) ⌝ }
+    ensures { λ r. ⌜ r ≡ encodable (vtxGprIn (now (values .entry))) ⌝ }
+{
+    let taken = opcodes::fetch_taken(FetchKind::Vertex, values[1]);
+    let semantic = fetches::is_semantic(FetchKind::Vertex, values[1]);
+    if !(taken & !semantic) {
+        return false;
+    }
+    if !formats::vtx::word0_fits(vtx_word0(values)) {
+        return false;
+    }
+    if !formats::vtx::gpr_fits(vtx_gpr(values)) {
+        return false;
+    }
+    formats::vtx::word2_fits(vtx_word2(values, 21))
+}
+
+pub(crate) fn is_vtx_sem(values: &[u32]) -> bool
+    requires { ⌜ rowLength ≤ length (now values) ⌝ }
+    ensures { λ r. ⌜ r ≡ encodable (vtxSemIn (now (values .entry))) ⌝ }
+{
+    let taken = opcodes::fetch_taken(FetchKind::Vertex, values[1]);
+    let semantic = fetches::is_semantic(FetchKind::Vertex, values[1]);
+    if !(taken & semantic) {
+        return false;
+    }
+    if !formats::vtx::word0_fits(vtx_word0(values)) {
+        return false;
+    }
+    if !formats::vtx::sem_fits(vtx_sem(values)) {
+        return false;
+    }
+    formats::vtx::word2_fits(vtx_word2(values, 20))
 }
 
 fn tex_word0(values: &[u32]) -> TexWord0

@@ -29,6 +29,9 @@ pub(crate) fn write_tex(word0: u32, word1: u32, word2: u32, values: &mut [u32]) 
     let b = formats::tex::read_word1(word1);
     let c = formats::tex::read_word2(word2);
     put(&tex_row(a, b, c), values);
+    // Once more, so that it is written last: the three forms then end differently, and the compiler does not join their ends, which would have
+    // each value wait on the stack (docs/MACHINE-CODE.md).
+    values[0] = 5;
     Encoded::Done
 }
 

@@ -2,6 +2,7 @@
 // fields in AMD's order (specs/Values.antt and specs/FetchValues.antt).
 mod fetch_records;
 mod fetch_rows;
+mod fetch_words;
 mod records;
 mod rows;
 
@@ -14,7 +15,7 @@ use microcode::Instruction;
 use microcode::Stream;
 use units::Words;
 ghost use mathlib.Core.Path.{_≡_};
-ghost use Prim.Native.Nat.{_≤_};
+ghost use Prim.Native.Nat.{_≤_, min};
 ghost use lib.ListN.{length};
 ghost use Rattle.checks.specs.Verdict.{verdictNumber};
 ghost use Rattle.microcode.specs.declared.Decoded.the-variants as decoded;
@@ -123,8 +124,18 @@ pub extern "C" fn zlatomruk_encode_fetch(values: &[u32], words: &mut [u32], star
     if 7 < form {
         return encoded_number(Encoded::NoRecord);
     }
-    let fetch = fetch_records::words_of(values);
-    encoded_number(fetch_codec::write(fetch, words, Words(start)))
+    let from = smaller(start, words.len());
+    encoded_number(fetch_words::write(values, &mut words[from..]))
+}
+
+// Behind the end there are no words, and so no room.
+fn smaller(a: usize, b: usize) -> usize
+    ensures { λ r. ⌜ r ≡ min a b ⌝ }
+{
+    if a < b {
+        return a;
+    }
+    b
 }
 
 fn stream_numbered(n: u32) -> Stream

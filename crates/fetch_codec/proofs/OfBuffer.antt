@@ -1,22 +1,25 @@
 -- Decoding and encoding a fetch at a start, by what the code tests. Assumes nothing.
 use mathlib.Core.Path.{_≡_, refl, ap, _∙_}
-use mathlib.Core.Bool.{Bool, true, false, not, cond}
+use mathlib.Core.Bool.{Bool, true, false, not, cond, _&&_}
 use mathlib.Core.List.{List, [], _∷_, _++_}
-use Prim.Native.Nat.{ℕ, _+_, _-_, _≤_, _<_}
+use Prim.Native.Nat.{ℕ, _+_, _-_, _≤_, _<_, min}
 use native.Mathlib.Omega.{arith}
 use lib.ListN.{length, getD, take, drop, take-append-drop}
 use lib.Seq.{sets}
-use borrow.Author.Tests.{le-leb, lt-leb, not-true, not-false}
+use borrow.Author.Tests.{le-leb, lt-leb, leb-true, leb-false, not-true, not-false}
+use lib.Dec.{leb}
 use borrow.Rule.Slice.PartMut.{putMid}
-use Rattle.laws.proofs.OfTests.{by-test}
+use Rattle.laws.proofs.OfTests.{both, by-test, same-test}
 use Rattle.laws.proofs.OfLists.{to-the-end}
 use Rattle.units.specs.declared.Words.{Words}
+use Rattle.units.specs.Units.{words}
 use Rattle.opcodes.specs.declared.cf.FetchKind.{FetchKind}
 use Rattle.opcodes.specs.declared.cf.FetchKind.the-variants.{Vertex, Texture}
 use Rattle.formats.specs.Fields.{_of_, «FETCH_INST»}
 use Rattle.fetches.specs.Fetches.{badFetch, isSemantic}
 use Rattle.microcode.specs.declared.Encoded.{Encoded}
 use Rattle.microcode.specs.declared.Encoded.the-variants.{NoRecord, NoRoom, Done}
+use Rattle.microcode.specs.Buffer.{answerFor}
 use Rattle.microcode.proofs.OfCodec.{back-again, stored-at, part-fits}
 use Rattle.fetch_codec.specs.declared.Fetch.{Fetch}
 use Rattle.fetch_codec.specs.declared.Clause.{Clause}
@@ -110,12 +113,14 @@ module _ (w : FetchWords) (l : List ℕ) (start : Words) where
   unfolding writeAnswer writeWords
   write-refused h = let k = not-true (w .«is_record») h in (rw k, rw k)
 
-  pub write-beyond : not (w .«is_record») ≡ false → length l < start .0 → (NoRoom ≡ writeAnswer w l start) × (l ≡ writeWords w l start)
+  pub write-short : not (w .«is_record») ≡ false → length l < start .0 + 4 → (NoRoom ≡ writeAnswer w l start) × (l ≡ writeWords w l start)
   unfolding writeAnswer writeWords
-  write-beyond h b =
-      let k = not-false (w .«is_record») h in
-      let none : room l (start .0) ≡ false = cramped l (start .0) (omega arith) in
-      (rw (k, none), rw (k, none))
+  write-short h b = let k = not-false (w .«is_record») h in let none = cramped l (start .0) b in (rw (k, none), rw (k, none))
+
+  pub write-done : (m : List ℕ) → not (w .«is_record») ≡ false → start .0 + 4 ≤ length l → m ≡ sets l (start .0) (w .word0 ∷ w .word1 ∷ w .word2 ∷ 0 ∷ [])
+      → (Done ≡ writeAnswer w l start) × (m ≡ writeWords w l start)
+  unfolding writeAnswer writeWords
+  write-done m h b e = let k = not-false (w .«is_record») h in let some = roomy l (start .0) b in (rw (k, some), rw (k, some) e)
 
   pub write-put : (r : Encoded) (p : List ℕ) → not (w .«is_record») ≡ false → start .0 ≤ length l → r ≡ putAnswer (take (length l - start .0) (drop (start .0) l)) → p ≡ putWords (w .word0) (w .word1) (w .word2) (take (length l - start .0) (drop (start .0) l)) → (r ≡ writeAnswer w l start) × (putMid (start .0) (length l - start .0) l p ≡ writeWords w l start)
   unfolding writeAnswer writeWords
@@ -129,6 +134,38 @@ module _ (w : FetchWords) (l : List ℕ) (start : Words) where
             ∙ ap (λ (q : List ℕ). take at l ++ q) (y ∙ ap (putWords (w .word0) (w .word1) (w .word2)) part)
             ∙ part-words at l b (w .word0) (w .word1) (w .word2)),
       )
+
+-- what is written at the beginning of the part from the start on, or of none where the start is behind the words
+module _ (w : FetchWords) (l : List ℕ) (start : Words) (from : ℕ) (e : from ≡ min (start .0) (length l)) where
+  same-room : room (drop from l) 0 ≡ room l (start .0)
+  unfolding room
+  same-room =
+      part-fits 4 from l (omega (arith, e))
+      ∙ same-test (leb (from + 4) (length l)) (leb (start .0 + 4) (length l))
+      (λ t. le-leb (from + 4) (length l) (omega (arith, e, leb-true (start .0 + 4) (length l) t)))
+      (λ t. lt-leb (from + 4) (length l) (omega (arith, e, leb-false (start .0 + 4) (length l) t)))
+
+  pub write-part : (r : Encoded) (p : List ℕ) → r ≡ writeAnswer w (take (length l - from) (drop from l)) (words 0)
+      → p ≡ writeWords w (take (length l - from) (drop from l)) (words 0)
+      → (r ≡ writeAnswer w l start) × (putMid from (length l - from) l p ≡ writeWords w l start)
+  unfolding writeAnswer writeWords room
+  write-part r p x y =
+      let part = to-the-end from l in (
+        x ∙ ap (λ (q : List ℕ). answerFor (w .«is_record») (room q 0)) part ∙ ap (answerFor (w .«is_record»)) same-room,
+        back-again from l p
+            ∙ ap (λ (q : List ℕ). take from l ++ q) (y ∙ ap written part ∙ ap (λ (t : Bool). cond (w .«is_record» && t) (sets (drop from l) 0 vs) (drop from l)) same-room)
+            ∙ by-test (w .«is_record» && room l (start .0)) (λ t. rw t (stored-at from l vs ∙ ap (λ (k : ℕ). sets l k vs) (start-from t))) (λ t. rw t (take-append-drop from l)),
+      )
+    where
+      vs : List ℕ
+      vs = w .word0 ∷ w .word1 ∷ w .word2 ∷ 0 ∷ []
+
+      written : List ℕ → List ℕ
+      written q = cond (w .«is_record» && room q 0) (sets q 0 vs) q
+
+      start-from : w .«is_record» && room l (start .0) ≡ true → from ≡ start .0
+      start-from t =
+          omega (arith, e, leb-true (start .0 + 4) (length l) (both (w .«is_record») (room l (start .0)) t .1))
 
 -- what is written of a fetch's words is what is encoded of the fetch
 pub written-fetch : (f : Fetch) (l : List ℕ) (start : Words) {w : FetchWords} {r : Encoded} {p : List ℕ} → w ≡ wordsOf f

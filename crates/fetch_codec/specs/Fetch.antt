@@ -42,14 +42,24 @@ formKind (Tex a b c) = Texture
 formKind (VtxGpr a b c) = Vertex
 formKind (VtxSem a b c) = Vertex
 
--- no field exceeds its width
+-- no field exceeds its width: of word 0, of word 1, of word 2
+abbrev pub word0Fits : Fetch → Bool
+word0Fits (Tex a b c) = fitsTable tex.word0Table (tex.word0Values a)
+word0Fits (VtxGpr a b c) = fitsTable vtx.word0Table (vtx.word0Values a)
+word0Fits (VtxSem a b c) = fitsTable vtx.word0Table (vtx.word0Values a)
+
+abbrev pub word1Fits : Fetch → Bool
+word1Fits (Tex a b c) = fitsTable tex.word1Table (tex.word1Values b)
+word1Fits (VtxGpr a b c) = fitsTable vtx.gprTable (vtx.gprValues b)
+word1Fits (VtxSem a b c) = fitsTable vtx.semTable (vtx.semValues b)
+
+abbrev pub word2Fits : Fetch → Bool
+word2Fits (Tex a b c) = fitsTable tex.word2Table (tex.word2Values c)
+word2Fits (VtxGpr a b c) = fitsTable vtx.word2Table (vtx.word2Values c)
+word2Fits (VtxSem a b c) = fitsTable vtx.word2Table (vtx.word2Values c)
+
 abbrev pub fieldsFit : Fetch → Bool
-fieldsFit (Tex a b c) =
-    fitsTable tex.word0Table (tex.word0Values a) && fitsTable tex.word1Table (tex.word1Values b) && fitsTable tex.word2Table (tex.word2Values c)
-fieldsFit (VtxGpr a b c) =
-    fitsTable vtx.word0Table (vtx.word0Values a) && fitsTable vtx.gprTable (vtx.gprValues b) && fitsTable vtx.word2Table (vtx.word2Values c)
-fieldsFit (VtxSem a b c) =
-    fitsTable vtx.word0Table (vtx.word0Values a) && fitsTable vtx.semTable (vtx.semValues b) && fitsTable vtx.word2Table (vtx.word2Values c)
+fieldsFit f = word0Fits f && word1Fits f && word2Fits f
 
 -- the numbers that the form of a fetch has: no number is one of two forms of a kind
 abbrev pub takesNumber : Fetch → ℕ → Bool

@@ -13,14 +13,24 @@ pub(crate) fn found_in(kind: FetchKind, word0: u32, word1: u32, word2: u32, word
     ensures { λ r. ⌜ r ≡ fourFound kind word0 word1 word2 word3 ⌝ }
 {
     let number = read(word0, fields::FETCH_INST);
-    if fetches::is_bad(kind, number, word3) {
-        return Found::NotTaken;
-    }
+    let bad = fetches::is_bad(kind, number, word3);
     match kind {
-        FetchKind::Texture => Found::Tex(word0, word1, word2),
+        FetchKind::Texture => {
+            if bad {
+                return Found::NotTaken;
+            }
+            Found::Tex(word0, word1, word2)
+        }
+        // The form is asked for before rule 8, so that the branch that can't be foreseen is the first.
         FetchKind::Vertex => {
             if fetches::is_semantic(FetchKind::Vertex, number) {
+                if bad {
+                    return Found::NotTaken;
+                }
                 return Found::VtxSem(word0, word1, word2);
+            }
+            if bad {
+                return Found::NotTaken;
             }
             Found::VtxGpr(word0, word1, word2)
         }

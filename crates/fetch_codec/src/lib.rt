@@ -2,7 +2,7 @@
 //
 // A decoder is told which clause a fetch stands in: the words of a fetch do not say of which kind it is, and rule 8 goes by the clause.
 mod four;
-pub mod words;
+mod words;
 
 use checks::Verdict;
 use formats::tex::TexWord0;
@@ -109,8 +109,8 @@ pub fn encode(f: Fetch, out: &mut [u32], start: Words) -> Encoded
     write(words::of_fetch(f), out, start)
 }
 
-// The same with the words of a fetch that the caller knows the form of.
-pub fn write(words: FetchWords, out: &mut [u32], start: Words) -> Encoded
+// The words of a fetch, where they are a record's and there is room.
+fn write(words: FetchWords, out: &mut [u32], start: Words) -> Encoded
     ensures { λ r. ⌜ r ≡ writeAnswer words (now (out .entry)) start ⌝ }
     ensures { λ r. ⌜ now (out .exit) ≡ writeWords words (now (out .entry)) start ⌝ }
     ensures { λ r. ⌜ Answers (encodedVerdict r) (writeNumber words (now (out .entry)) start) ⌝ }

@@ -1,5 +1,4 @@
-// The words of a fetch, form by form: what the encoder writes, and whether it may. A caller that knows the form asks by it, so that nothing has
-// to ask for the form again.
+// The words of a fetch, form by form: what the encoder writes, and whether it may.
 use crate::Fetch;
 use formats::tex::TexWord0;
 use formats::tex::TexWord1;
@@ -32,7 +31,7 @@ pub(crate) fn of_fetch(f: Fetch) -> FetchWords
     }
 }
 
-pub fn of_tex(a: TexWord0, b: TexWord1, c: TexWord2) -> FetchWords
+fn of_tex(a: TexWord0, b: TexWord1, c: TexWord2) -> FetchWords
     ensures { λ r. ⌜ r ≡ wordsOf (form.Tex a b c) ⌝ }
 {
     let number = opcodes::fetch_taken(FetchKind::Texture, a.tex_inst);
@@ -47,7 +46,7 @@ pub fn of_tex(a: TexWord0, b: TexWord1, c: TexWord2) -> FetchWords
     }
 }
 
-pub fn of_vtx_gpr(a: VtxWord0, b: VtxWord1Gpr, c: VtxWord2) -> FetchWords
+fn of_vtx_gpr(a: VtxWord0, b: VtxWord1Gpr, c: VtxWord2) -> FetchWords
     ensures { λ r. ⌜ r ≡ wordsOf (form.VtxGpr a b c) ⌝ }
 {
     let taken = opcodes::fetch_taken(FetchKind::Vertex, a.vtx_inst);
@@ -63,7 +62,7 @@ pub fn of_vtx_gpr(a: VtxWord0, b: VtxWord1Gpr, c: VtxWord2) -> FetchWords
     }
 }
 
-pub fn of_vtx_sem(a: VtxWord0, b: VtxWord1Sem, c: VtxWord2) -> FetchWords
+fn of_vtx_sem(a: VtxWord0, b: VtxWord1Sem, c: VtxWord2) -> FetchWords
     ensures { λ r. ⌜ r ≡ wordsOf (form.VtxSem a b c) ⌝ }
 {
     let taken = opcodes::fetch_taken(FetchKind::Vertex, a.vtx_inst);

@@ -4,12 +4,12 @@ use mathlib.Core.Logic.{⊎-elim}
 use mathlib.Core.Bool.{Bool, true, _&&_}
 use mathlib.Core.List.{List, [], _∷_, map}
 use Prim.Native.Nat.{ℕ, zero, suc, _+_, _≤_, _<_}
-use native.Mathlib.Nat.{eq-or-lt-of-le}
+use native.Mathlib.Nat.{eq-or-lt-of-le, zero-add}
 use native.Mathlib.Omega.{arith}
 use lib.Dec.{ltb}
 use lib.ListN.{getD, drop, replicate}
 use borrow.Author.Tests.{ne-eqb, ltb-true}
-use Rattle.laws.proofs.OfLists.{upFrom}
+use Rattle.laws.proofs.OfLists.{upFrom, at-number}
 use Rattle.laws.proofs.OfTests.{both}
 use Rattle.opcodes.specs.Table.{Row, lookup}
 
@@ -28,6 +28,15 @@ pub record Listed {A : Type 0} (other : A) (rs : List (Row A)) (f : ℕ → A) :
 -- it is a at each of the n numbers from lo on, if the table is
 pub run : {A : Type 0} {other : A} {rs : List (Row A)} {f : ℕ → A} → Listed other rs f → (lo n : ℕ) (a : A) → map (lookup other rs) (upFrom lo n) ≡ replicate n a → (k : ℕ) → lo ≤ k → k < lo + n → a ≡ f k
 run {other = other} {rs = rs} d lo n a e k h j = sym (d .agrees k ∙ in-run (lookup other rs) lo n a e k h j)
+
+-- two definitions that agree at each number below m, by one test that is computed over those numbers
+pub same-below : {A : Type 0} (f g : ℕ → A) (m : ℕ) → map f (upFrom 0 m) ≡ map g (upFrom 0 m) → (k : ℕ) → k < m → f k ≡ g k
+same-below f g m e k h =
+    ap f (sym (zero-add k))
+    ∙ sym (at-number f (f 0) 0 m k h)
+    ∙ ap (λ l. getD l k (f 0)) e
+    ∙ at-number g (f 0) 0 m k h
+    ∙ ap g (zero-add k)
 
 -- every number of a table is below lo
 abbrev below : {A : Type 0} → ℕ → List (Row A) → Bool

@@ -1,6 +1,6 @@
 // Which instruction numbers are taken, what each control-flow number is, and the class of each ALU number.
 //
-// specs/ lists every number with its mnemonic; here each is decided by a match over runs of numbers.
+// specs/ lists every number with its mnemonic; here they are decided by matches over runs of numbers, and those of texture fetches by a bit each.
 pub mod alu;
 pub mod cf;
 
@@ -30,21 +30,15 @@ fn vertex_fetch_taken(number: u32) -> bool
     }
 }
 
-// Section 9.4.
+// Section 9.4: bit n is set where number n is taken, which are 2 to 8, 10 to 12, 14 and 16 to 31. Texture fetches mix the numbers, so a match
+// over the runs would be branches that a processor guesses wrongly.
+const TEXTURE_FETCHES: u32 = 0b1111_1111_1111_1111_0101_1101_1111_1100;
+
 fn texture_fetch_taken(number: u32) -> bool
     ensures { λ r. ⌜ r ≡ fetchTaken kinds.Texture number ⌝ }
 {
-    match number {
-        // MEM, LD, GET_TEXTURE_RESINFO, GET_NUMBER_OF_SAMPLES, GET_COMP_TEX_LOD, GET_GRADIENTS_H, GET_GRADIENTS_V
-        2..=8 => true,
-        // KEEP_GRADIENTS, SET_GRADIENTS_H, SET_GRADIENTS_V
-        10..=12 => true,
-        // in no list
-        13 => false,
-        // SET_CUBEMAP_INDEX
-        14 => true,
-        // SAMPLE, SAMPLE_L, SAMPLE_LB, SAMPLE_LZ, and the same with _G, _C and _C_G behind SAMPLE
-        16..=31 => true,
-        _ => false,
+    if 31 < number {
+        return false;
     }
+    (TEXTURE_FETCHES >> number) % 2 == 1
 }

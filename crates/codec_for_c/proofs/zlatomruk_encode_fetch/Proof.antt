@@ -3,7 +3,8 @@ use borrow.Author.Needs.{needs}
 use native.Mathlib.Omega.{arith}
 use denote.Ref.{now}
 use Rattle.units.specs.Units.{words}
-use Rattle.fetch_codec.proofs.OfBuffer.{written-fetch}
+use Rattle.fetch_codec.specs.Fetch.{wordsOf}
+use Rattle.fetch_codec.proofs.OfBuffer.{write-part}
 use Rattle.codec_for_c.specs.FetchValues.{fetchIn}
 use Rattle.codec_for_c.proofs.OfFetches.{encode-short, encode-pair-form, encode-other-form, encode-fetch, encode-promises}
 use Rattle.codec_for_c.proofs.zlatomruk_encode_fetch.Statement.{statement}
@@ -37,7 +38,7 @@ returns-4 c =
     let a = r .before .before .before .args in
     encode-promises (now (a .values)) (now (a .words)) (a .start) _ _
     (encode-fetch (now (a .values)) (now (a .words)) (a .start) _ _ _ (omega arith) (omega arith) (omega arith)
-    (written-fetch (fetchIn (now (a .values))) (now (a .words)) (words (a .start)) (i .words-of .ensures) (e .write .ensures .0, e .write .ensures .1 .0))
+    (write-part (wordsOf (fetchIn (now (a .values)))) (now (a .words)) (words (a .start)) _ (i .smaller .ensures) _ _ (e .write .ensures .0) (e .write .ensures .1))
     (c .encoded-number4 .ensures))
 
 pub zlatomruk-encode-fetch-spec : {M : Type 1} → statement M
@@ -51,8 +52,12 @@ zlatomruk-encode-fetch-spec =
     returns-2
     (λ c κs. tt)
     returns-3
-    (λ c κs. search needs)
     (λ c κs. tt)
+    (λ c. search needs)
+    (λ c. search needs)
+    (λ c. search needs)
+    (λ c. search needs)
+    (λ c κs. search needs)
     (λ c κs. tt)
     (λ c. search needs)
     returns-4)

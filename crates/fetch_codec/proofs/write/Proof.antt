@@ -1,7 +1,8 @@
 -- `fetch_codec::write` meets its contract: 21 before 20, and what `put_four` puts into the part. Assumes nothing.
 use borrow.Author.Needs.{needs}
+use native.Mathlib.Omega.{arith}
 use denote.Ref.{now}
-use Rattle.fetch_codec.proofs.OfBuffer.{write-refused, write-beyond, write-put}
+use Rattle.fetch_codec.proofs.OfBuffer.{write-refused, write-short, write-put}
 use Rattle.fetch_codec.proofs.OfPromises.{write-promises}
 use Rattle.fetch_codec.proofs.write.Statement.{statement}
 use Rattle.fetch_codec.proofs.write.Tie as tie
@@ -16,7 +17,7 @@ returns-2 c =
     let u = c .before in
     let a = u .before .before .before .args in
     write-promises (a .words) (now (a .out)) (a .start) _ _
-    (write-beyond (a .words) (now (a .out)) (a .start) (u .if1 .left) (c .if2 .taken))
+    (write-short (a .words) (now (a .out)) (a .start) (u .if1 .left) (omega arith))
 
 returns-3 : tie.Need-returns-3
 returns-3 c =

@@ -3,6 +3,7 @@ use borrow.Author.Needs.{needs}
 use mathlib.Core.Path.{ap, _∙_}
 use native.Mathlib.Omega.{arith}
 use denote.Ref.{now}
+use lib.ListN.{set}
 use Rattle.formats.specs.Tex as tex
 use Rattle.codec_for_c.specs.Values.{written}
 use Rattle.codec_for_c.specs.FetchValues.{texValues}
@@ -22,9 +23,10 @@ returns-2 c =
     let third = r .before in
     let a = third .before .before .before .before .before .args in
     write-all (texValues (tex.word0Of (a .word0)) (tex.word1Of (a .word1)) (tex.word2Of (a .word2))) (now (a .values)) _ (omega arith)
+    (ap (λ l. set l 0 5)
     (p .put .ensures
     ∙ ap (λ row. written row (now (a .values)))
-    (r .tex-row .ensures ∙ (λ i. texValues (third .before .before .read-word0 .ensures i) (third .before .read-word1 .ensures i) (third .read-word2 .ensures i))))
+    (r .tex-row .ensures ∙ (λ i. texValues (third .before .before .read-word0 .ensures i) (third .before .read-word1 .ensures i) (third .read-word2 .ensures i)))))
 
 pub write-tex-spec : {M : Type 1} → statement M
 write-tex-spec =
@@ -37,5 +39,6 @@ write-tex-spec =
     (λ c κs. tt)
     (λ c. search needs)
     (λ c κs. search needs)
+    (λ c. search needs)
     (λ c. search needs)
     returns-2)

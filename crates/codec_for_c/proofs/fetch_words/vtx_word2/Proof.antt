@@ -1,0 +1,47 @@
+-- `codec_for_c::fetch_words::vtx_word2` meets its contract: values within their widths need no mask. Assumes nothing.
+use borrow.Author.Needs.{needs}
+use mathlib.Core.Path.{refl, _∙_}
+use lib.Bits.{bitOr}
+use denote.Ref.{now}
+use Rattle.bits.proofs.OfTables.{lifted-word}
+use Rattle.formats.specs.Vtx.{word2Fields, word2Table, word2Values, word2At}
+use Rattle.codec_for_c.proofs.fetch_words.vtx_word2.Statement.{statement}
+use Rattle.codec_for_c.proofs.fetch_words.vtx_word2.Tie as tie
+
+returns : tie.Need-returns
+unfolding word2Fields
+returns c =
+    let b = c .before .before .before .before .before .before .before .before .before .before .before .before .before in
+    let a = b .args in
+    (λ i. (bitOr (bitOr (bitOr (bitOr (bitOr (c .before .before .before .before .before .before .before .before .before .before .lift .ensures i) (c .before .before .before .before .before .before .before .before .lift2 .ensures i)) (c .before .before .before .before .before .before .lift3 .ensures i)) (c .before .before .before .before .lift4 .ensures i)) (c .before .before .lift5 .ensures i)) (c .lift6 .ensures i)))
+    ∙ lifted-word word2Table refl (word2Values (word2At (a .at) (now (a .values)))) (b .pre .1)
+
+pub vtx-word2-spec : {M : Type 1} → statement M
+vtx-word2-spec =
+    tie.close
+    (tie.spec
+    (λ c. search needs)
+    (λ c. search needs)
+    (λ c. search needs)
+    (λ c κs. search needs)
+    (λ c. search needs)
+    (λ c. search needs)
+    (λ c. search needs)
+    (λ c κs. search needs)
+    (λ c. search needs)
+    (λ c. search needs)
+    (λ c. search needs)
+    (λ c κs. search needs)
+    (λ c. search needs)
+    (λ c. search needs)
+    (λ c. search needs)
+    (λ c κs. search needs)
+    (λ c. search needs)
+    (λ c. search needs)
+    (λ c. search needs)
+    (λ c κs. search needs)
+    (λ c. search needs)
+    (λ c. search needs)
+    (λ c. search needs)
+    (λ c κs. search needs)
+    returns)
