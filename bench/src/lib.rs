@@ -1,5 +1,6 @@
 //! A plain judge beside the proved one: comparison and times.
 
+pub mod from_c;
 pub mod generate;
 pub mod plain;
 pub mod proved;

@@ -48,10 +48,10 @@ pub fn judge(card: &[u8], words: &[u32]) -> (u32, usize, usize) {
 }
 
 unsafe extern "C" {
-    fn zlatomruk_decode(
+    pub fn zlatomruk_decode(
         words: *const u32, words_len: usize, start: usize, stream: u32, values: *mut u32, values_len: usize,
     ) -> u32;
-    fn zlatomruk_encode(values: *const u32, values_len: usize, words: *mut u32, words_len: usize, start: usize) -> u32;
+    pub fn zlatomruk_encode(values: *const u32, values_len: usize, words: *mut u32, words_len: usize, start: usize) -> u32;
 }
 
 /// `plain::codec::decode`, proved.
@@ -69,10 +69,10 @@ pub fn encode(values: &[u32], words: &mut [u32], start: usize) -> u32 {
 }
 
 unsafe extern "C" {
-    fn zlatomruk_decode_fetch(
+    pub fn zlatomruk_decode_fetch(
         words: *const u32, words_len: usize, start: usize, kind: u32, values: *mut u32, values_len: usize,
     ) -> u32;
-    fn zlatomruk_encode_fetch(values: *const u32, values_len: usize, words: *mut u32, words_len: usize, start: usize) -> u32;
+    pub fn zlatomruk_encode_fetch(values: *const u32, values_len: usize, words: *mut u32, words_len: usize, start: usize) -> u32;
 }
 
 /// `plain::fetch_codec::decode`, proved.

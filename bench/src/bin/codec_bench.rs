@@ -2,11 +2,12 @@
 
 use std::hint::black_box;
 
+use zlatomruk_bench::from_c::{Decode, Encode};
 use zlatomruk_bench::generate::codec::{STREAMS, numbered, numbers, row, start, taken};
 use zlatomruk_bench::generate::random::Random;
 use zlatomruk_bench::plain::codec::VALUES;
 use zlatomruk_bench::tally::{Tally, fail};
-use zlatomruk_bench::{plain, proved, timing};
+use zlatomruk_bench::{from_c, plain, proved, timing};
 
 /// Pairs of each stream, of each kind: random words, taken numbers, every number in turn.
 const PAIRS: usize = 500_000;
@@ -14,9 +15,6 @@ const ROWS: usize = 2_000_000;
 /// Pairs that are timed in turn: more than a branch predictor learns by heart.
 const TIMED: usize = 4096;
 const ROUNDS: usize = 1000;
-
-type Decode = fn(&[u32], usize, u32, &mut [u32]) -> u32;
-type Encode = fn(&[u32], &mut [u32], usize) -> u32;
 
 fn main() {
     let random = &mut Random::new(2011);
@@ -89,20 +87,25 @@ fn time(stream: u32, random: &mut Random) {
     let decode_all = |decode: Decode| {
         let mut values = [0; VALUES];
         for pair in 0..TIMED {
-            black_box(decode(black_box(&words), 2 * pair, stream, &mut values));
+            let words = black_box(&words);
+            let room = values.len();
+            // `words` and `values` are slices that do not overlap, as they are below.
+            black_box(unsafe { decode(words.as_ptr(), words.len(), 2 * pair, stream, values.as_mut_ptr(), room) });
             black_box(&values);
         }
     };
     let encode_all = |encode: Encode| {
         let mut out = [0; 2];
         for values in &rows {
-            black_box(encode(black_box(values), &mut out, 0));
+            let values = black_box(values);
+            let length = out.len();
+            black_box(unsafe { encode(values.as_ptr(), values.len(), out.as_mut_ptr(), length, 0) });
             black_box(&out);
         }
     };
     let name = if stream == 0 { "control flow" } else { "ALU" };
-    let decoders: (Decode, Decode) = (plain::codec::decode, proved::decode);
-    let encoders: (Encode, Encode) = (plain::codec::encode, proved::encode);
+    let decoders: (Decode, Decode) = (from_c::decode, proved::zlatomruk_decode);
+    let encoders: (Encode, Encode) = (from_c::encode, proved::zlatomruk_encode);
     report("decode", name, timing::race(ROUNDS, decoders, decode_all));
     report("encode", name, timing::race(ROUNDS, encoders, encode_all));
 }

@@ -2,26 +2,25 @@
 
 use std::hint::black_box;
 
+use zlatomruk_bench::from_c::{Decode, Encode};
 use zlatomruk_bench::generate::codec::start;
 use zlatomruk_bench::generate::fetch_codec::{KINDS, NUMBERS, numbered, row, taken, wild};
 use zlatomruk_bench::generate::random::Random;
 use zlatomruk_bench::plain::codec::VALUES;
 use zlatomruk_bench::plain::fetch_codec::{TEX, VTX};
 use zlatomruk_bench::tally::{Tally, fail};
-use zlatomruk_bench::{plain, proved, timing};
+use zlatomruk_bench::{from_c, plain, proved, timing};
 
 /// Fetches of each kind, of each sort: wild ones, taken ones, every number in turn.
 const FETCHES: usize = 500_000;
 const ROWS: usize = 2_000_000;
-/// Fetches that are timed in turn: more than a branch predictor learns by heart.
-const TIMED: usize = 4096;
-const ROUNDS: usize = 1000;
+/// Fetches that are timed in turn: more than a branch predictor learns by heart. Of 4,096 some learn a part, more of it or less by where the code
+/// comes to lie.
+const TIMED: usize = 32_768;
+const ROUNDS: usize = 200;
 /// Fetches of all kinds, mixed: once through them is more than caches hold.
 const MIXED: usize = 1_000_000;
 const MIXED_ROUNDS: usize = 20;
-
-type Decode = fn(&[u32], usize, u32, &mut [u32]) -> u32;
-type Encode = fn(&[u32], &mut [u32], usize) -> u32;
 
 fn main() {
     let random = &mut Random::new(2011);
@@ -95,20 +94,25 @@ fn time(name: &str, of: &[u32], count: usize, rounds: usize, random: &mut Random
     let decode_all = |decode: Decode| {
         let mut values = [0; VALUES];
         for (index, &kind) in kinds.iter().enumerate() {
-            black_box(decode(black_box(&words), 4 * index, kind, &mut values));
+            let words = black_box(&words);
+            let room = values.len();
+            // `words` and `values` are slices that do not overlap, as they are below.
+            black_box(unsafe { decode(words.as_ptr(), words.len(), 4 * index, kind, values.as_mut_ptr(), room) });
             black_box(&values);
         }
     };
     let encode_all = |encode: Encode| {
         let mut out = [0; 4];
         for values in &rows {
-            black_box(encode(black_box(values), &mut out, 0));
+            let values = black_box(values);
+            let length = out.len();
+            black_box(unsafe { encode(values.as_ptr(), values.len(), out.as_mut_ptr(), length, 0) });
             black_box(&out);
         }
     };
     let each = |(plain, proved): (f64, f64)| (plain / count as f64, proved / count as f64);
-    let decoders: (Decode, Decode) = (plain::fetch_codec::decode, proved::decode_fetch);
-    let encoders: (Encode, Encode) = (plain::fetch_codec::encode, proved::encode_fetch);
+    let decoders: (Decode, Decode) = (from_c::decode_fetch, proved::zlatomruk_decode_fetch);
+    let encoders: (Encode, Encode) = (from_c::encode_fetch, proved::zlatomruk_encode_fetch);
     report("decode", name, each(timing::race(rounds, decoders, decode_all)));
     report("encode", name, each(timing::race(rounds, encoders, encode_all)));
 }

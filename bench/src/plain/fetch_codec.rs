@@ -34,9 +34,9 @@ pub fn decode(words: &[u32], start: usize, kind: u32, values: &mut [u32]) -> u32
     0
 }
 
-// The functions of each form are not inlined: the compiler would join the ends of the three, and each would take longer.
+// The functions of the forms are not inlined, but for the first here: the compiler would join the ends of those that are, and each would take
+// longer.
 
-#[inline(never)]
 fn tex(first: u32, second: u32, third: u32, values: &mut [u32; VALUES]) {
     values[..LONGEST].copy_from_slice(&[
         5,
