@@ -15,7 +15,7 @@ use microcode::Instruction;
 use microcode::Stream;
 use units::Words;
 ghost use mathlib.Core.Path.{_≡_};
-ghost use Prim.Native.Nat.{_≤_, min};
+ghost use Prim.Native.Nat.{_≤_};
 ghost use lib.ListN.{length};
 ghost use Rattle.checks.specs.Verdict.{verdictNumber};
 ghost use Rattle.microcode.specs.declared.Decoded.the-variants as decoded;
@@ -124,18 +124,9 @@ pub extern "C" fn zlatomruk_encode_fetch(values: &[u32], words: &mut [u32], star
     if 7 < form {
         return encoded_number(Encoded::NoRecord);
     }
-    let from = smaller(start, words.len());
+    // Behind the end there are no words, and so no room.
+    let from = units::smaller(start, words.len());
     encoded_number(fetch_words::write(values, &mut words[from..]))
-}
-
-// Behind the end there are no words, and so no room.
-fn smaller(a: usize, b: usize) -> usize
-    ensures { λ r. ⌜ r ≡ min a b ⌝ }
-{
-    if a < b {
-        return a;
-    }
-    b
 }
 
 fn stream_numbered(n: u32) -> Stream

@@ -88,26 +88,6 @@ module _ (w0 w1 w2 : ℕ) (l : List ℕ) where
   unfolding putAnswer putWords
   put-done m h e = (rw (roomy l 0 h), rw (roomy l 0 h) e)
 
-module _ (a : ℕ) (l : List ℕ) (h : a ≤ length l) where
-  part-room : room (drop a l) 0 ≡ room l a
-  unfolding room
-  part-room = part-fits 4 a l h
-
-  part-answer : putAnswer (drop a l) ≡ cond (room l a) Done NoRoom
-  unfolding putAnswer
-  part-answer = rw part-room
-
-  part-words : (w0 w1 w2 : ℕ) → take a l ++ putWords w0 w1 w2 (drop a l) ≡ cond (room l a) (sets l a (w0 ∷ w1 ∷ w2 ∷ 0 ∷ [])) l
-  unfolding putWords
-  part-words w0 w1 w2 = rw part-room (by (room l a))
-    where
-      vs : List ℕ
-      vs = w0 ∷ w1 ∷ w2 ∷ 0 ∷ []
-
-      by : (t : Bool) → take a l ++ cond t (sets (drop a l) 0 vs) (drop a l) ≡ cond t (sets l a vs) l
-      by true = stored-at a l vs
-      by false = take-append-drop a l
-
 module _ (w : FetchWords) (l : List ℕ) (start : Words) where
   pub write-refused : not (w .«is_record») ≡ true → (NoRecord ≡ writeAnswer w l start) × (l ≡ writeWords w l start)
   unfolding writeAnswer writeWords
@@ -121,19 +101,6 @@ module _ (w : FetchWords) (l : List ℕ) (start : Words) where
       → (Done ≡ writeAnswer w l start) × (m ≡ writeWords w l start)
   unfolding writeAnswer writeWords
   write-done m h b e = let k = not-false (w .«is_record») h in let some = roomy l (start .0) b in (rw (k, some), rw (k, some) e)
-
-  pub write-put : (r : Encoded) (p : List ℕ) → not (w .«is_record») ≡ false → start .0 ≤ length l → r ≡ putAnswer (take (length l - start .0) (drop (start .0) l)) → p ≡ putWords (w .word0) (w .word1) (w .word2) (take (length l - start .0) (drop (start .0) l)) → (r ≡ writeAnswer w l start) × (putMid (start .0) (length l - start .0) l p ≡ writeWords w l start)
-  unfolding writeAnswer writeWords
-  write-put r p h b x y =
-      let at = start .0 in
-      let k = not-false (w .«is_record») h in
-      let part = to-the-end at l in (
-        rw k (x ∙ ap putAnswer part ∙ part-answer at l b),
-        rw k
-            (back-again at l p
-            ∙ ap (λ (q : List ℕ). take at l ++ q) (y ∙ ap (putWords (w .word0) (w .word1) (w .word2)) part)
-            ∙ part-words at l b (w .word0) (w .word1) (w .word2)),
-      )
 
 -- what is written at the beginning of the part from the start on, or of none where the start is behind the words
 module _ (w : FetchWords) (l : List ℕ) (start : Words) (from : ℕ) (e : from ≡ min (start .0) (length l)) where
@@ -166,6 +133,16 @@ module _ (w : FetchWords) (l : List ℕ) (start : Words) (from : ℕ) (e : from 
       start-from : w .«is_record» && room l (start .0) ≡ true → from ≡ start .0
       start-from t =
           omega (arith, e, leb-true (start .0 + 4) (length l) (both (w .«is_record») (room l (start .0)) t .1))
+
+-- the same of a record's words, as they were put there
+pub write-put : (w : FetchWords) (l : List ℕ) (start : Words) (r : Encoded) (p : List ℕ) → not (w .«is_record») ≡ false → start .0 ≤ length l
+    → r ≡ putAnswer (take (length l - start .0) (drop (start .0) l))
+    → p ≡ putWords (w .word0) (w .word1) (w .word2) (take (length l - start .0) (drop (start .0) l))
+    → (r ≡ writeAnswer w l start) × (putMid (start .0) (length l - start .0) l p ≡ writeWords w l start)
+unfolding putAnswer putWords writeAnswer writeWords
+write-put w l start r p h b x y =
+    let k = not-false (w .«is_record») h in
+    write-part w l start (start .0) (omega (arith, b)) r p (rw k x) (rw k y)
 
 -- what is written of a fetch's words is what is encoded of the fetch
 pub written-fetch : (f : Fetch) (l : List ℕ) (start : Words) {w : FetchWords} {r : Encoded} {p : List ℕ} → w ≡ wordsOf f
