@@ -2,3 +2,4 @@
 pub mod Table
 pub mod Numbers
 pub mod Alu
+pub mod Code

@@ -1,8 +1,10 @@
 // Which instruction numbers are taken, what each control-flow number is, and the class of each ALU number.
 //
-// specs/ lists every number with its mnemonic; here they are decided by matches over runs of numbers, and those of texture fetches by a bit each.
+// specs/ lists every number with its mnemonic. Here those of ALU instructions are looked up in a table, those of control flow are decided by
+// matches, and those of texture fetches by a bit each.
 pub mod alu;
 pub mod cf;
+mod table;
 
 use cf::FetchKind;
 ghost use mathlib.Core.Path.{_≡_};

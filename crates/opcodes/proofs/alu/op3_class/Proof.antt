@@ -1,9 +1,13 @@
--- `opcodes::alu::op3_class` meets its contract: each answer stands for a run of numbers, over which the table is computed.
--- Assumes nothing.
-use mathlib.Core.Path.{refl}
+-- `opcodes::alu::op3_class` meets its contract: below 32 by the table's test, and the definition has no number from 32 on. Assumes
+-- nothing.
+use borrow.Author.Needs.{needs}
+use mathlib.Core.Path.{_≡_, refl, ap, _∙_}
+use Prim.Native.Nat.{ℕ, _%_}
 use native.Mathlib.Omega.{arith}
 use Rattle.opcodes.specs.Alu.{op3, op3Class, notTaken}
-use Rattle.opcodes.proofs.OfRuns.{Listed, run, behind}
+use Rattle.opcodes.specs.Code.{classIn}
+use Rattle.opcodes.proofs.OfRuns.{Listed, behind}
+use Rattle.opcodes.proofs.OfTable.{looked, op3-looked}
 use Rattle.opcodes.proofs.alu.op3_class.Statement.{statement}
 use Rattle.opcodes.proofs.alu.op3_class.Tie as tie
 
@@ -11,12 +15,16 @@ listed : Listed notTaken op3 op3Class
 unfolding op3Class
 listed = record { agrees = λ k. refl }
 
-pub op3-class-spec : {M : Type 1} → statement M
+returns : tie.Need-returns
 unfolding op3
-op3-class-spec =
-    tie.close
-    (tie.spec
-    (λ c. run listed 12 4 _ refl _ (omega arith) (omega arith))
-    (λ c. run listed 16 11 _ refl _ (omega arith) (omega arith))
-    (λ c. run listed 0 12 _ refl _ (omega arith) (omega arith))
-    (λ c. behind listed 27 refl _ (omega arith)))
+returns c = behind listed 32 refl _ (omega arith)
+
+returns-2 : tie.Need-returns-2
+unfolding looked
+returns-2 c =
+    c .class-in .ensures
+    ∙ ap (λ (e : ℕ). classIn e (c .before .before .before .args .number % 8)) (c .before .op3-eight .ensures)
+    ∙ op3-looked _ (omega arith)
+
+pub op3-class-spec : {M : Type 1} → statement M
+op3-class-spec = tie.close (tie.spec returns (λ c κs. search needs) (λ c κs. search needs) returns-2)
