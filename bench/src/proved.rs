@@ -1,5 +1,5 @@
-//! The proved functions, from the archives that `rt staticlib` makes: the judge (judge_for_c), both codecs (codec_for_c), and rules 10 to 15 on one
-//! clause, which is in an archive for these comparisons alone (bench_clause).
+//! The proved functions: the judge and both codecs from the archive that C links (libzlatomruk.a), and rules 10 to 15 on one clause, which is in
+//! an archive for these comparisons alone (libbench_clause.a).
 
 use crate::plain::Kind;
 

@@ -1,5 +1,5 @@
-// The judge on words for C and Rust to link, by `rt staticlib judge_for_c`. The judge on files is in crate files_for_c, the codec in
-// codec_for_c: each is an archive of its own, since in one with the others the compiler would no longer inline the judge into its one caller.
+// The judge on words for C and Rust to link. The judge on files is in crate files_for_c, the codec in codec_for_c: `tools/archive` compiles each by
+// itself and joins them to one archive (docs/DECISIONS.md, "One archive for C").
 //
 // A slice is passed as a pointer and a length. A verdict comes back as one number (specs/Packed.antt).
 use checks::Verdict;

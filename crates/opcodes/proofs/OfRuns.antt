@@ -53,14 +53,21 @@ no-row other (r ∷ rs) lo e k h =
 pub behind : {A : Type 0} {other : A} {rs : List (Row A)} {f : ℕ → A} → Listed other rs f → (lo : ℕ) → below lo rs ≡ true → (k : ℕ) → lo ≤ k → other ≡ f k
 behind {other = other} {rs = rs} d lo e k h = sym (d .agrees k ∙ no-row other rs lo e k h)
 
--- a number that a match over 0, 1, .. m - 1 has found to be none of them
+-- what a match over 0, 1, .. m - 1 has found of a number that is none of them
 abbrev Passed : ℕ → ℕ → Type 0
 Passed zero k = Unit {0}
 Passed (suc m) k = Passed m k × (k ≡ m → ⊥)
 
-pub passed : (m k : ℕ) → Passed m k → m ≤ k
+passed : (m k : ℕ) → Passed m k → m ≤ k
 passed zero k r = omega arith
 passed (suc m) k r = past (passed m k (r .0)) (r .1)
   where
     past : m ≤ k → (k ≡ m → ⊥) → suc m ≤ k
     past h n = omega arith
+
+-- below m + 1 it is m
+pub last-one : (m k : ℕ) → Passed m k → k < suc m → k ≡ m
+last-one m k r h = between (passed m k r)
+  where
+    between : m ≤ k → k ≡ m
+    between l = omega arith

@@ -1,16 +1,12 @@
 -- `opcodes::table::op2_eight` meets its contract: no row of an eight is wrong. Assumes nothing.
 use borrow.Author.Needs.{needs}
-use mathlib.Core.Path.{_≡_, refl}
-use Prim.Native.Nat.{ℕ, _≤_, _<_}
+use mathlib.Core.Path.{refl}
 use native.Mathlib.Omega.{arith}
 use Rattle.opcodes.specs.Alu.{op2, op2Class}
-use Rattle.opcodes.proofs.OfRuns.{passed}
+use Rattle.opcodes.proofs.OfRuns.{last-one}
 use Rattle.opcodes.proofs.OfTable.{rows-right}
 use Rattle.opcodes.proofs.table.op2_eight.Statement.{statement}
 use Rattle.opcodes.proofs.table.op2_eight.Tie as tie
-
-last : (k : ℕ) → 31 ≤ k → k < 32 → k ≡ 31
-last k h j = omega arith
 
 pub op2-eight-spec : {M : Type 1} → statement M
 unfolding op2Class op2
@@ -80,4 +76,4 @@ op2-eight-spec =
     (λ c. rows-right op2Class 28 _ (c .before .match .keys29) (c .joined29 .ensures) refl refl)
     (λ c. rows-right op2Class 29 _ (c .before .match .keys30) (c .joined30 .ensures) refl refl)
     (λ c. rows-right op2Class 30 _ (c .before .match .keys31) (c .joined31 .ensures) refl refl)
-    (λ c. rows-right op2Class 31 _ (last _ (passed 31 _ (c .before .match .rest)) (omega arith)) (c .joined32 .ensures) refl refl))
+    (λ c. rows-right op2Class 31 _ (last-one 31 _ (c .before .match .rest) (omega arith)) (c .joined32 .ensures) refl refl))

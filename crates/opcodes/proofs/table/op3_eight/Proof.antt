@@ -1,16 +1,12 @@
 -- `opcodes::table::op3_eight` meets its contract: no row of an eight is wrong. Assumes nothing.
 use borrow.Author.Needs.{needs}
-use mathlib.Core.Path.{_≡_, refl}
-use Prim.Native.Nat.{ℕ, _≤_, _<_}
+use mathlib.Core.Path.{refl}
 use native.Mathlib.Omega.{arith}
 use Rattle.opcodes.specs.Alu.{op3, op3Class}
-use Rattle.opcodes.proofs.OfRuns.{passed}
+use Rattle.opcodes.proofs.OfRuns.{last-one}
 use Rattle.opcodes.proofs.OfTable.{rows-right}
 use Rattle.opcodes.proofs.table.op3_eight.Statement.{statement}
 use Rattle.opcodes.proofs.table.op3_eight.Tie as tie
-
-last : (k : ℕ) → 3 ≤ k → k < 4 → k ≡ 3
-last k h j = omega arith
 
 pub op3-eight-spec : {M : Type 1} → statement M
 unfolding op3Class op3
@@ -24,4 +20,4 @@ op3-eight-spec =
     (λ c. rows-right op3Class 0 _ (c .before .match .keys1) (c .joined .ensures) refl refl)
     (λ c. rows-right op3Class 1 _ (c .before .match .keys2) (c .joined2 .ensures) refl refl)
     (λ c. rows-right op3Class 2 _ (c .before .match .keys3) (c .joined3 .ensures) refl refl)
-    (λ c. rows-right op3Class 3 _ (last _ (passed 3 _ (c .before .match .rest)) (omega arith)) (c .joined4 .ensures) refl refl))
+    (λ c. rows-right op3Class 3 _ (last-one 3 _ (c .before .match .rest) (omega arith)) (c .joined4 .ensures) refl refl))
