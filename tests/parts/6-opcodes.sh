@@ -19,12 +19,12 @@ sed -n 's/^    //p' docs/OPCODES.md >"$work/session"
 sed -n 's/^\$ \(sed .*\)/\1/p' "$work/session" >"$work/changes"
 sed -n 's/^\$ \(rt .*\)/\1/p' "$work/session" >"$work/commands"
 while read -r change <&3 && read -r command <&4; do
-    rm -rf "$work/changed"
-    mkdir -p "$work/changed/crates"
-    cp -r crates/laws crates/opcodes "$work/changed/crates"
-    printf 'laws:\nopcodes: laws\n' >"$work/changed/crates.txt"
+    rm -rf "$work/opcodes"
+    mkdir -p "$work/opcodes/crates"
+    cp -r crates/laws crates/opcodes "$work/opcodes/crates"
+    printf 'laws:\nopcodes: laws\n' >"$work/opcodes/crates.txt"
     printf '$ %s\n$ %s\n' "$change" "$command"
-    (cd "$work/changed" && eval "$change" && eval "$command")
+    (cd "$work/opcodes" && eval "$change" && eval "$command")
 done 3<"$work/changes" 4<"$work/commands" >"$work/seen"
 holds "docs/OPCODES.md: what it shows" cmp -s "$work/session" "$work/seen"
 holds "docs/OPCODES.md: it shows three changes" [ "$(wc -l <"$work/changes")" -eq 3 ]
