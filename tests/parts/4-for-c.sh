@@ -57,3 +57,10 @@ sed -n 's/^ *ZLATOMRUK_VERDICT_[A-Z_]* = \([0-9]*\).*/\1/p' include/zlatomruk.h 
 holds "the header has the numbers 0 to 21" [ "$(paste -sd ' ' "$work/numbers")" = "$(seq -s ' ' 0 21)" ]
 holds "the header's version" grep -qx "#define ZLATOMRUK_VERSION \"$(cat VERSION)\"" include/zlatomruk.h
 holds "the header's version as a number" grep -q "^#define ZLATOMRUK_VERSION_NUMBER $(awk -F . '{ print 10000 * $1 + 100 * $2 + $3 }' VERSION) " include/zlatomruk.h
+
+# bench/archives times an archive beside itself, and says where it can't.
+cat examples/copy.card examples/copy.pack >"$work/copy.in"
+answers "bench/archives: the archive twice" 0 bench/archives "$work/copy.in" $archive $archive
+holds "bench/archives: both times of both" [ "$(grep -c '^[12]: .* us, .* of the first$' "$work/out")" -eq 4 ]
+answers "bench/archives: no archive" 2 bench/archives "$work/copy.in"
+answers "bench/archives: an input without a card" 2 bench/archives examples/copy.pack $archive
