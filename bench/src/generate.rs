@@ -7,6 +7,7 @@ pub mod damage;
 pub mod fetch_codec;
 pub mod pack;
 pub mod random;
+pub mod timed;
 
 use crate::plain::Kind;
 use crate::plain::card::Card;

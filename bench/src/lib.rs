@@ -2,6 +2,7 @@
 
 pub mod from_c;
 pub mod generate;
+pub mod mixture;
 pub mod plain;
 pub mod proved;
 pub mod tally;

@@ -1,73 +1,66 @@
-//! Both judges, timed in one run on a large pack, on one clause opened again and again, and on document 01's copy pack.
+//! Both judges, timed in one run on the packs of `generate::timed`, or on those that the arguments name: mixed, pairs, openers, copy, or a file with a
+//! card and a pack, one behind the other.
 
+use std::env;
 use std::hint::black_box;
 
-use zlatomruk_bench::generate::card_text;
-use zlatomruk_bench::generate::clause::{Setting, clause};
-use zlatomruk_bench::generate::control;
-use zlatomruk_bench::generate::pack::{Size, pack};
-use zlatomruk_bench::generate::random::Random;
-use zlatomruk_bench::plain::Kind;
-use zlatomruk_bench::plain::card::Card;
+use zlatomruk_bench::generate::timed::{Input, named_or_read};
+use zlatomruk_bench::mixture::Mixture;
 use zlatomruk_bench::plain::judge::Answer;
-use zlatomruk_bench::{plain, proved, timing};
+use zlatomruk_bench::{plain, proved, tally, timing};
 
 const ROUNDS: usize = 400;
-const QUADS: usize = 8192;
-const PAIRS: usize = 512;
-const SLOTS: usize = 128;
 
-type Input = (Vec<u8>, Vec<u32>);
 type Judge = fn(&[u8], &[u32]) -> Answer;
 
 fn main() {
-    race("8,192 quadwords, 512 pairs", large(), 4);
-    race("511 openers of one 128-slot clause", openers(), 4);
-    race("copy pack", copy_pack(), 2000);
-}
-
-fn race(name: &str, (card, words): Input, repeats: usize) {
-    assert_eq!(plain::judge(&card, &words), (0, 0, 0), "{name}: a pack made to be accepted");
-    assert_eq!(proved::judge(&card, &words), (0, 0, 0), "{name}: a pack made to be accepted");
-    let all = |judge: Judge| {
-        for _ in 0..repeats {
-            black_box(judge(black_box(&card), black_box(&words)));
+    let arguments: Vec<String> = env::args().skip(1).collect();
+    let all = ["mixed", "pairs", "openers", "copy"].map(String::from);
+    for name in if arguments.is_empty() { all.as_slice() } else { &arguments } {
+        let input = named_or_read(name).unwrap_or_else(|| tally::fail(&format!("no pack or readable file {name}")));
+        match name.as_str() {
+            "mixed" => {
+                let number = Mixture::of(&input.1).instructions;
+                both_states("mixed pack, 8,192 quadwords, 512 pairs", &input, number, "an ALU instruction");
+            }
+            "pairs" => both_states("512 mixed pairs, shortest clauses", &input, Mixture::of(&input.1).pairs, "a pair"),
+            "openers" => over_and_over("511 openers of one 128-slot clause", &input, 4, None),
+            "copy" => over_and_over("copy pack", &input, 2000, None),
+            file => both_states(file, &input, Mixture::of(&input.1).instructions.max(1), "an ALU instruction"),
         }
-    };
-    let judges: (Judge, Judge) = (plain::judge, proved::judge);
-    let (plain, proved) = timing::race(ROUNDS, judges, all);
-    let each = repeats as f64;
-    println!("{name}: plain {:.0} ns, proved {:.0} ns, proved / plain {:.2}", plain / each, proved / each, proved / plain);
-}
-
-/// A generated pack with a full section and clauses up to the last quadwords. Packs come out in all sizes, so seeds are
-/// tried until one is nearly full; what is left is filled with words that nothing opens.
-fn large() -> Input {
-    let size = Size { steps: PAIRS - 2, slots: 84, fetches: 16, depth: 5 };
-    let mut pack = (0..)
-        .map(|seed| pack(size, &mut Random::new(seed)))
-        .find(|pack| pack.end == PAIRS - 1 && (QUADS - 900..=QUADS).contains(&(pack.words.len() / 2)))
-        .expect("one of all seeds");
-    pack.words.resize(2 * QUADS, 0);
-    pack.card.quads = QUADS as u32;
-    (card_text(&pack.card), pack.words)
-}
-
-fn openers() -> Input {
-    let random = &mut Random::new(511);
-    let setting = Setting::generous(Kind::Pixel, false);
-    let mut words = Vec::new();
-    for _ in 1..PAIRS {
-        words.extend(control::alu(8, PAIRS, SLOTS, setting.mode0, setting.mode1, random));
     }
-    words.extend([0, 1 << 21]);
-    words.extend(clause(SLOTS, &setting, random));
-    let Setting { kind, gprs, temps, consts, .. } = setting;
-    let card = Card { kind, production: true, gprs, temps, consts, stack: 0, quads: (PAIRS + SLOTS) as u32 };
-    (card_text(&card), words)
 }
 
-fn copy_pack() -> Input {
-    let card = Card { kind: Kind::Pixel, production: true, gprs: 2, temps: 0, consts: 0, stack: 0, quads: 3 };
-    (card_text(&card), vec![0x0000_0002, 0xA000_0000, 0, 0x0020_0000, 0x8000_0000, 0x0020_0C90])
+fn both_states(name: &str, input: &Input, number: usize, to: &str) {
+    over_and_over(name, input, 4, Some((number, to)));
+    once(name, input, number, to);
+}
+
+const JUDGES: (Judge, Judge) = (plain::judge, proved::judge);
+
+/// The machine may learn every branch of the pack by heart.
+fn over_and_over(name: &str, (card, words): &Input, repeats: usize, to: Option<(usize, &str)>) {
+    assert_eq!(plain::judge(card, words), (0, 0, 0), "{name}: a pack made to be accepted");
+    assert_eq!(proved::judge(card, words), (0, 0, 0), "{name}: a pack made to be accepted");
+    let (plain, proved) = timing::race(ROUNDS, JUDGES, |judge: Judge| {
+        for _ in 0..repeats {
+            black_box(judge(black_box(card), black_box(words)));
+        }
+    });
+    print(name, plain / repeats as f64, proved / repeats as f64, to);
+}
+
+/// As when the pack is judged once: branches are unlearned before each call, which is timed alone.
+fn once(name: &str, (card, words): &Input, number: usize, to: &str) {
+    let (plain, proved) = timing::race_unlearned(ROUNDS, JUDGES, |judge: Judge| {
+        black_box(judge(black_box(card), black_box(words)));
+    });
+    print(&format!("{name}, branches not learned"), plain, proved, Some((number, to)));
+}
+
+fn print(name: &str, plain: f64, proved: f64, to: Option<(usize, &str)>) {
+    let each = to.map_or(String::new(), |(number, to)| {
+        format!(" ({:.1} and {:.1} ns to {to})", plain / number as f64, proved / number as f64)
+    });
+    println!("{name}: plain {plain:.0} ns, proved {proved:.0} ns{each}, proved / plain {:.2}", proved / plain);
 }

@@ -35,13 +35,18 @@ impl Setting {
     }
 }
 
-const ANY: &[u32] = &[0, 1, 2, 3, 4, 5, 6, 8, 11, 12, 15, 16, 20, 25, 48, 51, 53, 57, 58, 63, 112, 114];
-const ANY_OP3: &[u32] = &[16, 17, 19, 20, 23, 24, 25, 26];
-const TRANS: &[u32] = &[97, 99, 102, 105, 107, 111, 115, 118, 120];
+/// All taken numbers, so that none is unheard of in what is compared and timed.
+const ANY: &[u32] = &[
+    0, 1, 2, 3, 4, 5, 6, 8, 9, 10, 11, 12, 13, 14, 15, 16, 17, 18, 19, 20, 25, 48, 49, 50, 51, 53, 54, 55, 56, 57, 58, 59, 60,
+    61, 62, 63, 112, 113, 114,
+];
+const ANY_OP3: &[u32] = &[16, 17, 18, 19, 20, 21, 22, 23, 24, 25, 26];
+const TRANS: &[u32] = &[97, 98, 99, 100, 101, 102, 103, 104, 105, 106, 107, 108, 109, 110, 111, 115, 116, 117, 118, 119, 120];
 const TRANS_OP3: &[u32] = &[12, 13, 14, 15];
+const ADD_INT: u32 = 52;
 const MOVAS: &[u32] = &[21, 22, 24];
 const REDUCTIONS: &[u32] = &[80, 81, 82, 83];
-const SETTERS: &[u32] = &[32, 35, 36, 39, 40, 43, 66, 69, 70, 71, 74, 79];
+const SETTERS: &[u32] = &[32, 33, 34, 35, 36, 37, 38, 39, 40, 41, 42, 43, 66, 67, 68, 69, 70, 71, 74, 75, 76, 77, 78, 79];
 const KILLS: &[u32] = &[44, 45, 46, 47];
 
 /// One instruction before its words are made.
@@ -49,12 +54,28 @@ struct Plan {
     op3: bool,
     number: u32,
     channel: u32,
-    trans: bool,
+    unit: Unit,
+}
+
+/// Where an instruction goes.
+#[derive(Clone, Copy, PartialEq, Eq)]
+enum Unit {
+    /// Its channel's.
+    Vector,
+    /// Trans, since its channel is taken.
+    Moved,
+    /// Trans, by its number.
+    Trans,
 }
 
 impl Plan {
+    /// An OP2 number in place of the one planned.
+    fn becomes(&mut self, number: u32) {
+        (self.op3, self.number) = (false, number);
+    }
+
     fn words(&self, sources: [u32; 3], shared: u32, relative: bool, setting: &Setting, random: &mut Random) -> [u32; 2] {
-        let swizzle = random.below(if self.trans { 4 } else { 6 }) as u32;
+        let swizzle = random.below(if self.unit == Unit::Vector { 6 } else { 4 }) as u32;
         let pred_sel = random.pick(&[0, 0, 2, 3]);
         let low = sources[0] | sources[1] << 13 | (random.below(5) as u32) << 26 | pred_sel << 29;
         let target = register(setting, random);
@@ -106,15 +127,14 @@ fn plans(count: usize, special: Special, random: &mut Random) -> Vec<Plan> {
         if random.below(4 - channel) < vectors - plans.len() {
             let op3 = random.once_in(3);
             let number = random.pick(if op3 { ANY_OP3 } else { ANY });
-            plans.push(Plan { op3, number, channel: channel as u32, trans: false });
+            plans.push(Plan { op3, number, channel: channel as u32, unit: Unit::Vector });
         }
     }
     if special == Special::Reduction {
         let number = random.pick(REDUCTIONS);
-        plans.iter_mut().for_each(|plan| (plan.op3, plan.number) = (false, number));
-    } else if !with_trans && random.once_in(6) {
-        let last = plans.len() - 1;
-        (plans[last].op3, plans[last].number) = (false, 52); // ADD_INT, vector only
+        plans.iter_mut().for_each(|plan| plan.becomes(number));
+    } else if vectors > 0 && random.once_in(6) {
+        plans[random.below(vectors)].becomes(ADD_INT); // vector only
     }
     if with_trans {
         // An any-unit number goes to Trans where its own channel is taken before it.
@@ -126,7 +146,8 @@ fn plans(count: usize, special: Special, random: &mut Random) -> Vec<Plan> {
             (false, false) => TRANS,
             (false, true) => TRANS_OP3,
         });
-        plans.push(Plan { op3, number, channel: taken.unwrap_or(random.word() & 3), trans: true });
+        let unit = if taken.is_some() { Unit::Moved } else { Unit::Trans };
+        plans.push(Plan { op3, number, channel: taken.unwrap_or(random.word() & 3), unit });
     }
     plans
 }
@@ -158,7 +179,8 @@ pub fn clause(slots: usize, setting: &Setting, random: &mut Random) -> Vec<u32> 
         let special = if wants_setter {
             Special::Setter
         } else if ends {
-            if setting.kind == Kind::Pixel { Special::Kill } else { Special::None } // nowhere else may a kill stand
+            // Nowhere else may a kill stand.
+            if setting.kind == Kind::Pixel && !random.once_in(4) { Special::Kill } else { Special::None }
         } else if count >= 4 && random.once_in(4) {
             Special::Reduction
         } else if random.once_in(10) {
@@ -174,19 +196,20 @@ pub fn clause(slots: usize, setting: &Setting, random: &mut Random) -> Vec<u32> 
 
 fn group(count: usize, literals: usize, special: Special, setting: &Setting, random: &mut Random, words: &mut Vec<u32>) {
     let mut plans = plans(count, special, random);
-    // Setters and kills go to any unit: they may replace an any-unit number, in Trans too if its channel is taken.
-    // A MOVA has to stand in a vector unit, so it takes the first, if that is one.
-    let numbers = match special {
-        Special::Setter => SETTERS,
-        Special::Kill => KILLS,
-        Special::Mova if !plans[0].trans => MOVAS,
-        _ => &[],
-    };
-    if !numbers.is_empty() {
-        let first = &mut plans[0];
-        (first.op3, first.number) = (false, random.pick(numbers));
-        // Alone in a group it is not in Trans but in its own channel.
-        first.trans = false;
+    // Setters and kills go to any unit: they may replace an any-unit number, also one that is moved to Trans, and what is alone in its group.
+    // A MOVA has to stand in a vector unit.
+    let vectors = plans.iter().filter(|plan| plan.unit == Unit::Vector).count();
+    let any_unit = plans.iter().filter(|plan| plan.unit != Unit::Trans).count().max(1);
+    match special {
+        Special::Setter | Special::Kill => {
+            let plan = &mut plans[random.below(any_unit)];
+            plan.becomes(random.pick(if special == Special::Setter { SETTERS } else { KILLS }));
+            if plan.unit == Unit::Trans {
+                plan.unit = Unit::Vector;
+            }
+        }
+        Special::Mova if vectors > 0 => plans[random.below(vectors)].becomes(random.pick(MOVAS)),
+        _ => {}
     }
     let relative = special != Special::Mova;
     let shared = if special == Special::Reduction || random.once_in(3) { random.word() & 0x8000_0060 } else { 0 };

@@ -160,6 +160,11 @@ fn card(random: &mut Random) -> Card {
 /// could exceed 8,192 quadwords.
 pub fn pack(size: Size, random: &mut Random) -> Pack {
     let card = card(random);
+    pack_for(card, size, random)
+}
+
+/// The same for a card; its stack and quads are filled in.
+pub fn pack_for(card: Card, size: Size, random: &mut Random) -> Pack {
     let course = Course::random(size, random);
     let end = course.steps.len() - 1;
     let mut pack = Pack { card, words: vec![0; 2 * (end + 1)], end, alu: Vec::new(), fetches: Vec::new() };
@@ -210,7 +215,9 @@ impl Pack {
         let (mode0, mode1) = (random.word() & 3, random.word() & 3);
         let setting = Setting { kind, push_before: number == 9, gprs, temps, consts, mode0, mode1 };
         let start = self.gap(random);
-        let slots = random.between(1, size.slots.min(128));
+        // Short ones more often than long ones, as in shaders.
+        let most = if random.once_in(2) { size.slots } else { size.slots.div_ceil(4) };
+        let slots = random.between(1, most.min(128));
         self.words.extend(clause(slots, &setting, random));
         self.alu.push((start, slots));
         control::alu(number, start, slots, mode0, mode1, random)

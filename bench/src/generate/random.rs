@@ -20,9 +20,9 @@ impl Random {
         (0..count).map(|_| self.word()).collect()
     }
 
-    /// A number of `0..bound`.
+    /// A number of `0..bound`, which may be above 32 bits.
     pub fn below(&mut self, bound: usize) -> usize {
-        ((u64::from(self.word()) * bound as u64) >> 32) as usize
+        ((u128::from(self.word()) * bound as u128) >> 32) as usize
     }
 
     /// A number of `low..=high`.

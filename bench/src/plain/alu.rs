@@ -1,40 +1,14 @@
 //! Rules 10 to 15 on an ALU clause, and PUSH_BEFORE's count.
+//!
+//! Packs mix all that a group may hold, so a branch on what an instruction is can't be foreseen. A clause is therefore first asked as a whole whether
+//! anything is wrong, its instructions one after the other with all tests joined, groups ending without a branch; which rule is broken first, and
+//! where, is asked only if something is.
 
 use super::Kind;
 use super::grants::Grants;
-use super::instruction::{Instruction, Source};
-use super::opcodes::{KILL, MOVA, REDUCTION, SETTER, TRANS, UNTAKEN, VECTOR};
-
-/// Rule number and slot; compares as the order inside a group does, the number first.
-#[derive(Clone, Copy, PartialEq, Eq, PartialOrd, Ord)]
-struct Fault(u64);
-
-impl Fault {
-    const NONE: Fault = Fault(u64::MAX);
-
-    fn new(number: u32, slot: usize) -> Self {
-        Fault(u64::from(number) << 32 | slot as u64)
-    }
-
-    fn answer(self) -> (u32, usize) {
-        ((self.0 >> 32) as u32, self.0 as u32 as usize)
-    }
-}
-
-/// What rules 13 and 14 remember of a group's earlier instructions.
-#[derive(Default)]
-struct Group {
-    /// One bit for each unit, X lowest, then Trans.
-    units: u32,
-    /// Classes of all, joined.
-    classes: u8,
-    /// Predicate setters and kills.
-    exclusive: u32,
-    relative: bool,
-    literals: usize,
-}
-
-const TRANS_UNIT: u32 = 16;
+use super::group::{Group, Literals};
+use super::instruction::Instruction;
+use super::opcodes::{EXCLUSIVE, KILL, MOVA, REDUCTION, SETTER, UNTAKEN};
 
 /// Rules 10 to 15 on the clause of `slots` quadwords from quadword `start`: number (0 accepted) and slot.
 /// A clause that does not lie in the words answers 0.
@@ -53,116 +27,146 @@ pub fn alu_clause(
 }
 
 /// The same on the clause's own pairs.
+#[inline]
 pub fn clause_rules(clause: &[[u32; 2]], push_before: bool, kind: Kind, grants: &Grants) -> (u32, usize) {
-    let mut first = 0;
-    let mut setters = 0;
-    while first < clause.len() {
-        match group_rules(clause, first, kind, grants) {
-            Ok((next, setter)) => {
-                first = next;
-                setters += u32::from(setter);
-            }
-            Err(fault) => return fault.answer(),
+    if keeps_all_rules(clause, push_before, kind, grants) { (0, 0) } else { first_fault(clause, push_before, kind, grants) }
+}
+
+/// Whether nothing is wrong: never true where a rule is broken. The rules answer with a number that is not 0 where they are broken, so that what they
+/// say is joined, too, and asked for once.
+#[inline(never)]
+pub fn keeps_all_rules(clause: &[[u32; 2]], push_before: bool, kind: Kind, grants: &Grants) -> bool {
+    let (mut slot, mut broken, mut setters) = (0, 0, 0);
+    let (mut group, mut literals) = (Group::NEW, Literals::NONE);
+    // All ones, or 0 behind an instruction with LAST.
+    let mut same_group = u32::MAX;
+    while let Some(&pair) = clause.get(slot) {
+        let instruction = Instruction::new(pair);
+        (group, literals) = (group.masked(same_group), literals.masked(same_group));
+        // All else waits for where the next one stands, so this comes first.
+        literals = literals.with(instruction);
+        let last = instruction.last();
+        same_group = last.wrapping_sub(1);
+        let next = slot + 1 + (literals.quadwords() & (last as usize).wrapping_neg());
+        broken |= group.excludes(instruction);
+        group = group.with(instruction);
+        broken |= rule_11(instruction) | rules_12_and_15(instruction, grants) | rule_13(instruction, group);
+        setters += instruction.class() / SETTER;
+        if group.is_special_at(last) {
+            // Rare enough for a branch.
+            broken |= u32::from(special_group(clause, slot, next, group, kind));
         }
+        slot = next;
+    }
+    // Rule 10: LAST stands before the end, and no literals run over it. Six in a group break rule 13.
+    let fills = same_group == 0 && slot == clause.len();
+    broken == 0 && fills && (!push_before || setters == 1)
+}
+
+/// The rest of rule 14 on a group with a kill, MOVA or reduction whose last instruction is in `slot`. It keeps rule 13, or what is said here is not
+/// asked for.
+#[inline(never)]
+fn special_group(clause: &[[u32; 2]], slot: usize, next: usize, group: Group, kind: Kind) -> bool {
+    let pairs = &clause[(slot + 1).saturating_sub(group.count())..=slot];
+    special_rule_14(pairs, group, kind, next == clause.len())
+}
+
+/// Number and slot of the first fault, group by group; 0 if there is none.
+#[cold]
+fn first_fault(clause: &[[u32; 2]], push_before: bool, kind: Kind, grants: &Grants) -> (u32, usize) {
+    let (mut first, mut setters) = (0, 0);
+    while first < clause.len() {
+        let Some((group, next)) = rule_10(clause, first) else { return (10, first) };
+        if let Some((number, slot)) = group_fault(group, kind, next == clause.len(), grants) {
+            return (number, first + slot);
+        }
+        setters += instructions(group).filter(|instruction| instruction.is(SETTER)).count();
+        first = next;
     }
     if push_before && setters != 1 { (14, 0) } else { (0, 0) }
 }
 
-/// One group: where the next begins and whether a predicate setter is in it.
-#[inline]
-fn group_rules(clause: &[[u32; 2]], first: usize, kind: Kind, grants: &Grants) -> Result<(usize, bool), Fault> {
-    let mut group = Group::default();
-    let mut fault = Fault::NONE;
-    for (index, &pair) in clause[first..].iter().take(5).enumerate() {
-        let slot = first + index;
-        let instruction = Instruction::new(pair);
-        let sources = instruction.sources();
-        let misplaced = rule_13(instruction, &mut group);
-        if let Some(number) = lowest_broken(instruction, sources, misplaced, grants) {
-            fault = fault.min(Fault::new(number, slot));
-        }
-        group.classes |= instruction.class();
-        group.exclusive += u32::from(instruction.is(SETTER | KILL));
-        group.relative |= instruction.any_relative();
-        for source in sources {
-            group.literals = group.literals.max(source.literals());
-        }
-        if instruction.is_last() {
-            let next = slot + 1 + group.literals;
-            if next > clause.len() {
-                break; // rule 10: the literals run over the end
-            }
-            if rule_14(&group, &clause[first..], kind, next == clause.len()) {
-                fault = fault.min(Fault::new(14, first));
-            }
-            return if fault == Fault::NONE { Ok((next, group.classes & SETTER != 0)) } else { Err(fault) };
-        }
-    }
-    // Rule 10: no LAST in five instructions or before the end. It goes before all others of the group.
-    Err(Fault::new(10, first))
+fn instructions(group: &[[u32; 2]]) -> impl Iterator<Item = Instruction> + Clone {
+    group.iter().map(|&pair| Instruction::new(pair))
+}
+
+/// The lowest number that a group breaks, and the lowest slot of it that does.
+fn group_fault(pairs: &[[u32; 2]], kind: Kind, ends_clause: bool, grants: &Grants) -> Option<(u32, usize)> {
+    let lowest = |number, broken: &mut dyn FnMut(Instruction) -> u32| {
+        instructions(pairs).position(|instruction| broken(instruction) != 0).map(|slot| (number, slot))
+    };
+    let mut group = Group::NEW;
+    lowest(11, &mut rule_11)
+        .or_else(|| lowest(12, &mut |instruction| rule_12(instruction, grants)))
+        .or_else(|| {
+            lowest(13, &mut |instruction| {
+                group = group.with(instruction);
+                rule_13(instruction, group)
+            })
+        })
+        .or_else(|| rule_14(pairs, group, kind, ends_clause).then_some((14, 0)))
+        .or_else(|| lowest(15, &mut |instruction| rule_15(instruction, grants)))
+}
+
+/// The pairs of the group from slot `first` on and where the next one begins, if its shape is right.
+fn rule_10(clause: &[[u32; 2]], first: usize) -> Option<(&[[u32; 2]], usize)> {
+    let last = instructions(&clause[first..]).take(5).position(|instruction| instruction.last() == 1)?;
+    let group = &clause[first..=first + last];
+    let next = first + group.len() + instructions(group).fold(Literals::NONE, Literals::with).quadwords();
+    (next <= clause.len()).then_some((group, next))
 }
 
 /// The number is not taken.
 #[inline]
-fn rule_11(instruction: Instruction) -> bool {
-    instruction.is(UNTAKEN)
+fn rule_11(instruction: Instruction) -> u32 {
+    instruction.class() & UNTAKEN
 }
 
 /// Field values that are refused whatever the card grants.
 #[inline]
-fn rule_12(instruction: Instruction, sources: [Source; 3]) -> bool {
-    instruction.pred_sel() == 1
-        || instruction.index_mode() > 4
-        || instruction.bank_swizzle() > 5
-        || sources.into_iter().any(Source::is_refused)
+fn rule_12(instruction: Instruction, grants: &Grants) -> u32 {
+    instruction.refused_swizzle() | u32::from(instruction.refused_modes()) | grants.refused(instruction)
 }
 
-/// Units have to rise, Trans being the highest: that refuses a unit taken twice, a vector unit below an earlier one and
-/// anything after Trans at once.
+/// Both at once: what they say of a source is looked up together.
 #[inline]
-fn rule_13(instruction: Instruction, group: &mut Group) -> bool {
-    let own = 1 << instruction.channel();
-    let moves = instruction.is(TRANS) | (!instruction.is(VECTOR) & (group.units & own != 0));
-    let unit = if moves { TRANS_UNIT } else { own };
-    let falls = group.units >= unit;
-    group.units |= unit;
-    falls | (moves & (instruction.bank_swizzle() > 3))
+fn rules_12_and_15(instruction: Instruction, grants: &Grants) -> u32 {
+    let looked_up = instruction.refused_modes() | grants.sources(instruction);
+    u32::from(looked_up) | instruction.refused_swizzle() | grants.ungranted_destination(instruction)
 }
 
-/// Asked once the group is read. Where rule 13 is kept, four equal reductions stand in X, Y, Z and W, so they are the
-/// first four.
+/// The unit of the latest instruction of a group.
 #[inline]
-fn rule_14(group: &Group, pairs: &[[u32; 2]], kind: Kind, ends_clause: bool) -> bool {
-    let has = |class: u8| group.classes & class != 0;
-    group.exclusive > 1
-        || (has(KILL) && (kind != Kind::Pixel || !ends_clause))
-        || (has(MOVA) && group.relative)
-        || (has(REDUCTION) && !is_reduction(group, pairs))
+fn rule_13(latest: Instruction, group: Group) -> u32 {
+    group.misplaces(latest)
 }
 
-fn is_reduction(group: &Group, pairs: &[[u32; 2]]) -> bool {
-    let shared = |pair: &[u32; 2]| Instruction::new(*pair).reduction_fields();
-    group.units & 15 == 15 && pairs[1..4].iter().all(|pair| shared(pair) == shared(&pairs[0]))
+/// On a group that keeps rule 13.
+fn rule_14(pairs: &[[u32; 2]], group: Group, kind: Kind, ends_clause: bool) -> bool {
+    let exclusive = instructions(pairs).filter(|instruction| instruction.is(EXCLUSIVE)).count();
+    exclusive > 1 || special_rule_14(pairs, group, kind, ends_clause)
+}
+
+/// Its part on kills, MOVAs and reductions.
+#[inline]
+fn special_rule_14(pairs: &[[u32; 2]], group: Group, kind: Kind, ends_clause: bool) -> bool {
+    (group.has(KILL) && (kind != Kind::Pixel || !ends_clause))
+        || (group.has(MOVA) && instructions(pairs).any(Instruction::has_relative))
+        || (group.has(REDUCTION) && !is_reduction(pairs, group))
+}
+
+/// All four vector units are filled alike. Where rule 13 is kept, what stands in X, Y, Z and W are the first four.
+#[inline]
+fn is_reduction(pairs: &[[u32; 2]], group: Group) -> bool {
+    let alike = |four: &[[u32; 2]; 4]| {
+        let [first, second, third, fourth] = four.map(|pair| Instruction::new(pair).reduction_fields());
+        (first ^ second | first ^ third | first ^ fourth) == 0
+    };
+    group.has_all_vector_units() && pairs.first_chunk().is_some_and(alike)
 }
 
 /// A register or constant is not granted.
 #[inline]
-fn rule_15(instruction: Instruction, sources: [Source; 3], grants: &Grants) -> bool {
-    !grants.all(instruction, sources)
-}
-
-/// The lowest number that an instruction breaks by itself.
-#[inline]
-fn lowest_broken(instruction: Instruction, sources: [Source; 3], misplaced: bool, grants: &Grants) -> Option<u32> {
-    if rule_11(instruction) {
-        Some(11)
-    } else if rule_12(instruction, sources) {
-        Some(12)
-    } else if misplaced {
-        Some(13)
-    } else if rule_15(instruction, sources, grants) {
-        Some(15)
-    } else {
-        None
-    }
+fn rule_15(instruction: Instruction, grants: &Grants) -> u32 {
+    grants.ungranted(instruction)
 }

@@ -4,7 +4,7 @@ use super::Kind;
 use super::card::Card;
 
 /// The taken numbers (rule 4).
-#[derive(Clone, Copy, PartialEq, Eq)]
+#[derive(Clone, Copy, PartialEq, Eq, Debug)]
 pub enum Op {
     Nop,
     Tex,
@@ -24,6 +24,97 @@ pub enum Op {
     Pop2After,
 }
 
+/// What the rules have to know of a number, looked up: packs mix all of them.
+#[derive(Clone, Copy)]
+pub struct Number {
+    pub op: Option<Op>,
+    /// Rule 5: bits of the high word that have to be 0.
+    clear: u32,
+    /// Rule 5: bit 22, if it must not be set together with bit 30.
+    one_mode: u32,
+    /// The walk: bits of POP_COUNT that are read, M frames that are needed at least, and whether "no" pops what is needed (all ones) or nothing.
+    counted: u32,
+    pub least: u32,
+    pub popped: u32,
+    /// M frames that "no" pushes.
+    pub pushed: u32,
+    /// Bits of those below.
+    kinds: u32,
+}
+
+/// It has a target. Of LOOP_BREAK and LOOP_CONTINUE that is a LOOP_END.
+pub const BRANCH: u32 = 1;
+pub const TO_LOOP_END: u32 = 2;
+pub const LOOP_START: u32 = 4;
+pub const LOOP_END: u32 = 8;
+/// It opens a clause of ALU slots, or one of fetches.
+pub const OPENS_ALU: u32 = 16;
+pub const OPENS_FETCHES: u32 = 32;
+
+const fn about(op: Option<Op>) -> Number {
+    let none = Number { op, clear: 0, one_mode: 0, counted: 0, least: 0, popped: 0, pushed: 0, kinds: 0 };
+    // Rule 5 does not read the openers of ALU clauses.
+    let general = Number { clear: 1 << 20, one_mode: 1 << 22, ..none };
+    let no_end = Number { clear: general.clear | 1 << 21, ..general };
+    let branch = Number { counted: 7, kinds: BRANCH, ..no_end };
+    let opener = Number { kinds: OPENS_ALU, ..none };
+    let no_cond = Number { clear: general.clear | 0x300, ..general };
+    match op {
+        None => none,
+        Some(Op::Alu) => opener,
+        Some(Op::PushBefore) => Number { pushed: 1, ..opener },
+        Some(Op::PopAfter) => Number { least: 1, popped: u32::MAX, ..opener },
+        Some(Op::Pop2After) => Number { least: 2, popped: u32::MAX, ..opener },
+        Some(Op::Nop) => no_cond,
+        Some(Op::Tex | Op::Vtx | Op::VtxTc) => Number { kinds: OPENS_FETCHES, ..no_cond },
+        Some(Op::Export) => Number { clear: 0x1F000, ..general },
+        Some(Op::Jump) => branch,
+        Some(Op::LoopBreak | Op::LoopContinue) => Number { kinds: BRANCH | TO_LOOP_END, ..branch },
+        Some(Op::Else) => Number { least: 1, ..branch },
+        Some(Op::Pop) => Number { popped: u32::MAX, ..branch },
+        Some(Op::LoopStart) => Number { kinds: BRANCH | LOOP_START, ..no_end },
+        Some(Op::LoopEnd) => Number { kinds: BRANCH | LOOP_END, ..no_end },
+    }
+}
+
+/// Rule 4: by high bits 29:23. An ALU opener's number is 29:26, which fills eight places.
+const fn taken(bits: usize) -> Option<Op> {
+    if bits & 64 != 0 {
+        return match bits >> 3 {
+            8 => Some(Op::Alu),
+            9 => Some(Op::PushBefore),
+            10 => Some(Op::PopAfter),
+            11 => Some(Op::Pop2After),
+            _ => None,
+        };
+    }
+    match bits {
+        0 => Some(Op::Nop),
+        1 => Some(Op::Tex),
+        2 => Some(Op::Vtx),
+        3 => Some(Op::VtxTc),
+        5 => Some(Op::LoopEnd),
+        6 => Some(Op::LoopStart),
+        8 => Some(Op::LoopContinue),
+        9 => Some(Op::LoopBreak),
+        10 => Some(Op::Jump),
+        13 => Some(Op::Else),
+        14 => Some(Op::Pop),
+        39 | 40 => Some(Op::Export),
+        _ => None,
+    }
+}
+
+static NUMBERS: [Number; 128] = {
+    let mut table = [about(None); 128];
+    let mut bits = 0;
+    while bits < table.len() {
+        table[bits] = about(taken(bits));
+        bits += 1;
+    }
+    table
+};
+
 /// Clause that a pair opens: its first quadword and its length in quadwords.
 #[derive(Clone, Copy)]
 pub struct Extent {
@@ -36,6 +127,13 @@ pub struct Extent {
 pub struct Control {
     low: u32,
     high: u32,
+}
+
+impl Number {
+    #[inline]
+    pub fn is(&self, kinds: u32) -> bool {
+        self.kinds & kinds != 0
+    }
 }
 
 impl Control {
@@ -56,33 +154,15 @@ impl Control {
         !self.bit(29) && self.bit(21)
     }
 
+    #[inline]
+    pub fn number(self) -> &'static Number {
+        &NUMBERS[(self.high >> 23 & 127) as usize]
+    }
+
     /// Rule 4: the number, if it is taken.
     #[inline]
     pub fn op(self) -> Option<Op> {
-        if self.bit(29) {
-            return match self.high >> 26 & 15 {
-                8 => Some(Op::Alu),
-                9 => Some(Op::PushBefore),
-                10 => Some(Op::PopAfter),
-                11 => Some(Op::Pop2After),
-                _ => None,
-            };
-        }
-        match self.high >> 23 & 127 {
-            0 => Some(Op::Nop),
-            1 => Some(Op::Tex),
-            2 => Some(Op::Vtx),
-            3 => Some(Op::VtxTc),
-            5 => Some(Op::LoopEnd),
-            6 => Some(Op::LoopStart),
-            8 => Some(Op::LoopContinue),
-            9 => Some(Op::LoopBreak),
-            10 => Some(Op::Jump),
-            13 => Some(Op::Else),
-            14 => Some(Op::Pop),
-            39 | 40 => Some(Op::Export),
-            _ => None,
-        }
+        self.number().op
     }
 
     /// Where a branch goes on "yes".
@@ -91,9 +171,10 @@ impl Control {
         self.low as usize
     }
 
+    /// POP_COUNT, where the number reads it, else 0.
     #[inline]
-    pub fn pop_count(self) -> u32 {
-        self.high & 7
+    pub fn pop_count(self, number: &Number) -> u32 {
+        self.high & number.counted
     }
 
     /// Modes of an ALU clause's two sets of constants.
@@ -103,32 +184,21 @@ impl Control {
     }
 
     /// Rule 5: fields of a pair that is no ALU opener.
-    pub fn rule_5(self, op: Op) -> bool {
-        let reserved = match op {
-            Op::Alu | Op::PushBefore | Op::PopAfter | Op::Pop2After => return false,
-            Op::Export => self.high & 0x1F000 != 0,
-            _ => self.bit(20),
-        };
-        let (may_end, has_cond) = match op {
-            Op::Nop | Op::Tex | Op::Vtx | Op::VtxTc => (true, self.high & 0x300 != 0),
-            Op::Export => (true, false),
-            _ => (false, false),
-        };
-        reserved || (self.bit(22) && self.bit(30)) || has_cond || (self.bit(21) && !may_end)
+    #[inline]
+    pub fn rule_5(self, number: &Number) -> bool {
+        self.high & (number.clear | self.high >> 8 & number.one_mode) != 0
     }
 
-    /// The clause that the pair opens, if it opens one: one quadword for each slot, two for each fetch.
+    /// The clause that an ALU opener opens: one quadword for each slot.
     #[inline]
-    pub fn clause(self, op: Op) -> Option<Extent> {
-        match op {
-            Op::Alu | Op::PushBefore | Op::PopAfter | Op::Pop2After => {
-                Some(Extent { start: (self.low & 0x3F_FFFF) as usize, length: (self.high >> 18 & 127) as usize + 1 })
-            }
-            Op::Tex | Op::Vtx | Op::VtxTc => {
-                Some(Extent { start: self.low as usize, length: 2 * ((self.high >> 10 & 7 | self.high >> 16 & 8) as usize + 1) })
-            }
-            _ => None,
-        }
+    pub fn alu_clause(self) -> Extent {
+        Extent { start: (self.low & 0x3F_FFFF) as usize, length: (self.high >> 18 & 127) as usize + 1 }
+    }
+
+    /// The clause that an opener of fetches opens: two quadwords for each.
+    #[inline]
+    pub fn fetch_clause(self) -> Extent {
+        Extent { start: self.low as usize, length: 2 * ((self.high >> 10 & 7 | self.high >> 16 & 8) as usize + 1) }
     }
 
     /// Rule 7 on an export.
@@ -150,9 +220,10 @@ impl Control {
 }
 
 impl Extent {
-    /// Rule 6: behind the section that ends with `end`, and inside the `quads`. ADDR has at most 32 bits and the sum is
+    /// The clause's pairs, if it keeps rule 6: behind the section that ends with `end`, and inside the pairs. ADDR has at most 32 bits and the sum is
     /// made in 64, so that it can't wrap.
-    pub fn rule_6(self, end: usize, quads: usize) -> bool {
-        self.start <= end || self.start as u64 + self.length as u64 > quads as u64
+    #[inline]
+    pub fn within(self, pairs: &[[u32; 2]], end: usize) -> Option<&[[u32; 2]]> {
+        if self.start <= end { None } else { pairs.get(self.start..self.start + self.length) }
     }
 }

@@ -2,9 +2,9 @@
 
 use super::alu;
 use super::card::{self, Card};
-use super::control::{Control, Op};
+use super::control::{BRANCH, Control, OPENS_ALU, OPENS_FETCHES, Op};
 use super::fetches;
-use super::flow::{self, Section, Stack};
+use super::flow::{Section, Walk};
 use super::grants::Grants;
 
 /// Number, place and slot.
@@ -28,12 +28,11 @@ pub fn judge(card: &[u8], words: &[u32]) -> Answer {
 fn rules(card: &Card, words: &[u32]) -> Result<(), Answer> {
     let pairs = rule_2(card, words).ok_or((2, 0, 0))?;
     let end = rule_3(pairs).ok_or((3, 0, 0))?;
-    let before = first_pass(card, pairs, end)?;
-    let section = Section { pairs: &pairs[..=end], before: &before };
-    for position in 0..=end {
-        section.second_pass_at(position).map_err(|number| (number, position, 0))?;
-    }
-    Ok(())
+    let walk = Walk::new(&pairs[..=end], card.stack);
+    let section = Section { pairs: &pairs[..=end], walk: &walk };
+    // Which rule is broken first, and where, is asked only if one is.
+    let kept = !walk.rule_17(end) && keeps_all_rules(card, pairs, &section);
+    if kept { Ok(()) } else { first_fault(card, pairs, &section) }
 }
 
 /// The words as pairs, if they are as many as the card says.
@@ -44,51 +43,95 @@ fn rule_2<'a>(card: &Card, words: &'a [u32]) -> Option<&'a [[u32; 2]]> {
 
 /// The end of the control-flow section.
 fn rule_3(pairs: &[[u32; 2]]) -> Option<usize> {
-    pairs.iter().take(LONGEST_SECTION).position(|&pair| Control::new(pair).is_end())
+    for (position, &pair) in pairs.iter().take(LONGEST_SECTION).enumerate() {
+        if Control::new(pair).is_end() {
+            return Some(position);
+        }
+    }
+    None
 }
 
-/// Rules 4 to 17 at each position, along "no"; the stacks before each.
-fn first_pass(card: &Card, pairs: &[[u32; 2]], end: usize) -> Result<Vec<Stack>, Answer> {
+/// Whether rules 6 to 15, 18 and 19 are kept, where all others are: each number is asked only what goes for it. Order is no matter here, so both passes
+/// are one.
+fn keeps_all_rules(card: &Card, pairs: &[[u32; 2]], section: &Section) -> bool {
+    let end = section.pairs.len() - 1;
     let mut grants = Grants::new(card.gprs, card.temps, card.consts);
-    let mut before = Vec::with_capacity(end + 1);
-    let mut stack = Stack::EMPTY;
-    for (position, &pair) in pairs[..=end].iter().enumerate() {
-        before.push(stack);
+    for (position, &pair) in section.pairs.iter().enumerate() {
         let control = Control::new(pair);
-        let fault = |number| (number, position, 0);
-        let op = control.op().ok_or(fault(4))?;
-        if control.rule_5(op) {
-            return Err(fault(5));
+        let number = control.number();
+        let kept = if number.is(BRANCH) {
+            let (rule_18, rule_19) = section.rules_18_and_19(position);
+            !(rule_18 | rule_19)
+        } else if number.is(OPENS_ALU) {
+            let (mode0, mode1) = control.modes();
+            grants.lock(mode0, mode1);
+            control
+                .alu_clause()
+                .within(pairs, end)
+                .is_some_and(|clause| alu::keeps_all_rules(clause, number.op == Some(Op::PushBefore), card.kind, &grants))
+        } else if number.is(OPENS_FETCHES) {
+            let clause = control.fetch_clause().within(pairs, end);
+            clause.is_some_and(|clause| fetches::fetch_rules(clause, number.op == Some(Op::Tex), card.gprs).is_ok())
+        } else {
+            number.op != Some(Op::Export) || !control.rule_7(card)
+        };
+        if !kept {
+            return false;
         }
-        if let Some(extent) = control.clause(op) {
-            if extent.rule_6(end, pairs.len()) {
-                return Err(fault(6));
-            }
-            let clause = &pairs[extent.start..extent.start + extent.length];
-            clause_rules(card, control, op, clause, &mut grants).map_err(|(number, slot)| (number, position, slot))?;
-        }
-        if op == Op::Export && control.rule_7(card) {
-            return Err(fault(7));
-        }
-        stack = flow::rule_16(&before, control, op, card.stack).ok_or(fault(16))?;
     }
-    if flow::rule_17(stack) {
+    true
+}
+
+/// Rules 6 to 15 on a pair and its clause: number and slot of the first fault.
+fn rules_6_to_15(card: &Card, pairs: &[[u32; 2]], end: usize, control: Control, grants: &mut Grants) -> Result<(), (u32, usize)> {
+    match control.op() {
+        Some(op @ (Op::Alu | Op::PushBefore | Op::PopAfter | Op::Pop2After)) => {
+            let clause = control.alu_clause().within(pairs, end).ok_or((6, 0))?;
+            let (mode0, mode1) = control.modes();
+            grants.lock(mode0, mode1);
+            match alu::clause_rules(clause, op == Op::PushBefore, card.kind, grants) {
+                (0, _) => Ok(()),
+                fault => Err(fault),
+            }
+        }
+        Some(op @ (Op::Tex | Op::Vtx | Op::VtxTc)) => {
+            let clause = control.fetch_clause().within(pairs, end).ok_or((6, 0))?;
+            fetches::fetch_rules(clause, op == Op::Tex, card.gprs)
+        }
+        Some(Op::Export) if control.rule_7(card) => Err((7, 0)),
+        _ => Ok(()),
+    }
+}
+
+/// Number, place and slot of the first fault: all rules in their order.
+#[cold]
+fn first_fault(card: &Card, pairs: &[[u32; 2]], section: &Section) -> Result<(), Answer> {
+    let end = section.pairs.len() - 1;
+    let mut grants = Grants::new(card.gprs, card.temps, card.consts);
+    for (position, &pair) in section.pairs.iter().enumerate() {
+        let control = Control::new(pair);
+        if control.op().is_none() {
+            return Err((4, position, 0));
+        }
+        if control.rule_5(control.number()) {
+            return Err((5, position, 0));
+        }
+        rules_6_to_15(card, pairs, end, control, &mut grants).map_err(|(number, slot)| (number, position, slot))?;
+        if section.walk.rule_16(position) {
+            return Err((16, position, 0));
+        }
+    }
+    if section.walk.rule_17(end) {
         return Err((17, end, 0));
     }
-    Ok(before)
-}
-
-/// Rules 8 to 15 inside a clause: number and slot of the first fault.
-fn clause_rules(card: &Card, control: Control, op: Op, clause: &[[u32; 2]], grants: &mut Grants) -> Result<(), (u32, usize)> {
-    if matches!(op, Op::Tex | Op::Vtx | Op::VtxTc) {
-        return fetches::fetch_rules(clause, op == Op::Tex, card.gprs);
+    for position in 0..=end {
+        match section.rules_18_and_19(position) {
+            (true, _) => return Err((18, position, 0)),
+            (_, true) => return Err((19, position, 0)),
+            _ => {}
+        }
     }
-    let (mode0, mode1) = control.modes();
-    grants.lock(mode0, mode1);
-    match alu::clause_rules(clause, op == Op::PushBefore, card.kind, grants) {
-        (0, _) => Ok(()),
-        fault => Err(fault),
-    }
+    Ok(())
 }
 
 #[cfg(test)]

@@ -10,6 +10,7 @@ pub mod flow;
 #[cfg(test)]
 mod flow_tests;
 pub mod grants;
+pub mod group;
 pub mod instruction;
 pub mod judge;
 pub mod opcodes;

@@ -1,8 +1,9 @@
 -- A clause, group by group: the groups passed break nothing, so the verdict is that of the groups left. Assumes nothing.
 use Prim.Native.Nat.{ℕ, zero, suc, _+_, _-_, _≤_, _<_}
 use mathlib.Core.Path.{_≡_, refl, sym, ap, _∙_}
-use mathlib.Core.Bool.{Bool, true, false, cond, not, _&&_}
+use mathlib.Core.Bool.{Bool, true, false, cond, not, _&&_, _||_, false≢true}
 use mathlib.Core.List.{List, [], _∷_, _++_}
+use lib.Dec.{eqb}
 use lib.ListN.{length}
 use borrow.Author.Tests.{lt-ltb, le-ltb}
 use native.Mathlib.Omega.{arith}
@@ -18,12 +19,11 @@ use Rattle.card.specs.declared.Kind.{Kind}
 use Rattle.opcodes.specs.declared.alu.Issue.the-variants.{Predicate}
 use Rattle.grants.specs.declared.Limits.{Limits}
 use Rattle.groups.specs.declared.counts.Count.{Count}
-use Rattle.groups.specs.declared.counts.Count.the-variants.{Nothing}
 use Rattle.groups.specs.declared.GroupFault.{GroupFault}
 use Rattle.groups.specs.declared.GroupFault.the-variants.{Clean, Broken}
 use Rattle.groups.specs.Group.{issued, ruleChecks}
-use Rattle.groups.specs.Code.{countOf, together, isOne, seenOf, faultOf}
-use Rattle.groups.proofs.OfGroup.{counted-together, counts-one, answer, group-answer}
+use Rattle.groups.specs.Code.{countOf, isOne, seenOf, faultOf}
+use Rattle.groups.proofs.OfGroup.{counts-one, answer, group-answer}
 use Rattle.clauses.specs.Clause.{lowOf, highOf, sizeOf, spanOf, badShape, groupsFrom, groupsOf, isPixel, mayKill, groupChecks, checksOf, settersIn, badPush, clauseChecks}
 use Rattle.clauses.specs.CodeRead.{pushVerdict}
 use Rattle.clauses.proofs.OfRead.{shaped}
@@ -41,6 +41,17 @@ pub push-passed :
     → Accepted ≡ pushVerdict push count place
 unfolding pushVerdict
 push-passed push count place one e h = rw ((λ i. push && not (sym e i)) ∙ h)
+
+-- nothing is pushed, or there is one
+pub push-one :
+    (push : Bool) (passed : ℕ) (place : Quadwords) → (not push || eqb passed 1) ≡ true → Accepted ≡ pushVerdict push (countOf passed) place
+unfolding pushVerdict
+push-one push passed place h = by push (eqb passed 1) (counts-one passed) h
+  where
+    by : (push one : Bool) → isOne (countOf passed) ≡ one → (not push || one) ≡ true → Accepted ≡ cond (push && not (isOne (countOf passed))) (Refused 14 (Quadword place) (slots 0)) Accepted
+    by false one e q = refl
+    by true true e q = rw e
+    by true false e q = absurd (false≢true q)
 
 push-check :
     (push : Bool) (n : ℕ) (place : Quadwords)
@@ -61,24 +72,20 @@ module _ (pixel : Bool) (limits : Limits) (w : List ℕ) (place s : Quadwords) (
   verdict gs = firstBroken (checksOf pixel limits w place s n gs)
 
   -- before slot g, where a group starts or the clause ends: the groups passed break nothing, and so many setters were counted
-  pub record Along (count : Count) (g : Slots) : Type 0 where
+  pub record Along (passed : ℕ) (g : Slots) : Type 0 where
     pub within : g .0 ≤ n .0
     pub fuel : ℕ
     pub enough : n .0 - g .0 ≤ fuel
-    pub passed : ℕ
-    pub count-is : count ≡ countOf passed
     pub total : settersIn w s n (groupsOf w s n) ≡ passed + settersIn w s n (groupsFrom w s n fuel g)
     pub rest : verdict (groupsOf w s n) ≡ verdict (groupsFrom w s n fuel g)
 
-  pub along-none : Along Nothing (slots 0)
-  unfolding groupsOf countOf
+  pub along-none : Along 0 (slots 0)
+  unfolding groupsOf
   along-none =
       record {
         within = omega arith;
         fuel = n .0;
         enough = omega arith;
-        passed = 0;
-        count-is = refl;
         total = let t : ℕ = settersIn w s n (groupsFrom w s n (n .0) (slots 0)) in let e : t ≡ 0 + t = omega arith in e;
         rest = refl;
       }
@@ -91,7 +98,7 @@ module _ (pixel : Bool) (limits : Limits) (w : List ℕ) (place s : Quadwords) (
   from-here g zero l m = absurd (omega arith)
   from-here g (suc k) l m = let e : suc k - 1 ≡ k = omega arith in rw (lt-ltb (g .0) (n .0) l, e) refl
 
-  module _ {count : Count} {g : Slots} (a : Along count g) (l : g .0 < n .0) where
+  module _ {passed : ℕ} {g : Slots} (a : Along passed g) (l : g .0 < n .0) where
     here :
         verdict (groupsOf w s n) ≡ verdict
         (g ∷ cond (badShape w (slotQuadword s g) (slotsLeft n g)) [] (groupsFrom w s n (a .fuel - 1) (slotBehind g (span g))))
@@ -139,20 +146,13 @@ module _ (pixel : Bool) (limits : Limits) (w : List ℕ) (place s : Quadwords) (
           (λ (b : Bool). issued Predicate (highOf w (slotQuadword s g)) (size g) + settersIn w s n (cond b [] (groupsFrom w s n (a .fuel - 1) (slotBehind g (span g)))))
           h
 
-      pub along-next :
-          {own more : Count} → fault ≡ Clean → own ≡ countOf (issued Predicate (highOf w (slotQuadword s g)) (size g))
-          → more ≡ together count own → Along more (slotBehind g (span g))
-      along-next q o t =
+      pub along-next : fault ≡ Clean → Along (passed + issued Predicate (highOf w (slotQuadword s g)) (size g)) (slotBehind g (span g))
+      along-next q =
           let room = shaped w (slotQuadword s g) (slotsLeft n g) h in
           record {
             within = omega (arith, room .1);
             fuel = a .fuel - 1;
             enough = omega (arith, a .enough, room .0);
-            passed = a .passed + issued Predicate (highOf w (slotQuadword s g)) (size g);
-            count-is =
-                t
-                ∙ (λ i. together (a .count-is i) (o i))
-                ∙ counted-together (a .passed) (issued Predicate (highOf w (slotQuadword s g)) (size g));
             total = omega (arith, a .total, setters-here);
             rest =
                 past
@@ -186,14 +186,13 @@ module _ (pixel : Bool) (limits : Limits) (w : List ℕ) (place s : Quadwords) (
     clause-refused h e = e ∙ sym (whole ∙ joined-refused (checksOf pixel limits w place s n (groupsOf w s n)) _ h)
 
     pub clause-done :
-        {v : Verdict} {count : Count} {g : Slots} → Along count g → n .0 ≤ g .0 → v ≡ pushVerdict push count place
+        {v : Verdict} {passed : ℕ} {g : Slots} → Along passed g → n .0 ≤ g .0 → v ≡ pushVerdict push (countOf passed) place
         → v ≡ firstBroken (clauseChecks kind push limits w place s n)
     unfolding settersIn checksOf firstBroken
-    clause-done {count = count} {g = g} z l e =
+    clause-done {passed = passed} {g = g} z l e =
         let last = none-left (z .fuel) g l in
-        let seen : settersIn w s n (groupsOf w s n) ≡ z .passed = z .total ∙ ap (λ (gs : List Slots). z .passed + settersIn w s n gs) last ∙ (omega arith) in
+        let seen : settersIn w s n (groupsOf w s n) ≡ passed = z .total ∙ ap (λ (gs : List Slots). passed + settersIn w s n gs) last ∙ (omega arith) in
         e
-        ∙ ap (λ (k : Count). pushVerdict push k place) (z .count-is)
         ∙ ap (λ (k : ℕ). pushVerdict push (countOf k) place) (sym seen)
         ∙ push-check push (settersIn w s n (groupsOf w s n)) place
         ∙ sym (whole ∙ joined-clean (checksOf pixel limits w place s n (groupsOf w s n)) _ (z .rest ∙ ap verdict last))

@@ -1,11 +1,11 @@
 -- Where the loop over a clause's groups stands, by the quadword of the next group and the slots left: in the buffer every number on the
 -- way is exact. Assumes nothing.
 use Prim.Native.Nat.{ℕ, _+_, _-_, _/_, _≤_, _<_, _^_}
-use mathlib.Core.Path.{_≡_, sym, ap, _∙_, subst}
-use mathlib.Core.Bool.{Bool, true, false, not}
+use mathlib.Core.Path.{_≡_, refl, sym, ap, _∙_, subst}
+use mathlib.Core.Bool.{Bool, true, false}
 use mathlib.Core.List.{List}
 use lib.ListN.{length}
-use borrow.Author.Tests.{ltb-true, ltb-false, leb-true, not-false}
+use borrow.Author.Tests.{ltb-true, ltb-false, leb-true}
 use native.Mathlib.Omega.{arith}
 use Rattle.units.specs.declared.Quadwords.{Quadwords}
 use Rattle.units.specs.declared.Slots.{Slots}
@@ -20,7 +20,8 @@ use Rattle.card.specs.declared.Kind.{Kind}
 use Rattle.grants.specs.declared.Limits.{Limits}
 use Rattle.groups.specs.declared.counts.Count.{Count}
 use Rattle.groups.specs.declared.counts.Count.the-variants.{Nothing}
-use Rattle.groups.specs.Code.{together}
+use Rattle.groups.specs.Code.{countOf, together}
+use Rattle.groups.proofs.OfGroup.{counted-together}
 use Rattle.clauses.specs.declared.Step.{Step}
 use Rattle.clauses.specs.declared.Step.the-variants.{Passed, Broken}
 use Rattle.clauses.specs.Clause.{isPixel, clauseChecks}
@@ -33,22 +34,24 @@ module _ (pixel : Bool) (limits : Limits) (w : List ℕ) (place s : Quadwords) (
   pub record Going (count : Count) (at : Quadwords) (left : Slots) : Type 0 where
     pub few : left .0 ≤ n .0
     pub at-is : at ≡ slotQuadword s (slotsLeft n left)
-    pub along : Along pixel limits w place s n count (slotsLeft n left)
+    pub passed : ℕ
+    pub count-is : count ≡ countOf passed
+    pub along : Along pixel limits w place s n passed (slotsLeft n left)
 
   pub going-none : Going Nothing s n
+  unfolding countOf
   going-none =
       let z : 0 ≡ n .0 - n .0 = omega arith in
       let y : s .0 ≡ s .0 + (n .0 - n .0) = omega arith in
       record {
         few = omega arith;
         at-is = ap quadwords y;
-        along = subst (λ (g : ℕ). Along pixel limits w place s n Nothing (slots g)) z (along-none pixel limits w place s n);
+        passed = 0;
+        count-is = refl;
+        along = subst (λ (g : ℕ). Along pixel limits w place s n 0 (slots g)) z (along-none pixel limits w place s n);
       }
 
-  module _ (h : length w < 2 ^ 64) {t : Bool} (e : t ≡ liesIn (words (length w)) s (slotsLength n)) (y : not t ≡ false) where
-    inside-is : liesIn (words (length w)) s (slotsLength n) ≡ true
-    inside-is = sym e ∙ not-false t y
-
+  module _ (h : length w < 2 ^ 64) (inside-is : liesIn (words (length w)) s (slotsLength n) ≡ true) where
     reach : s .0 + n .0 ≤ length w / 2
     unfolding liesIn
     reach = leb-true (s .0 + n .0) (length w / 2) inside-is
@@ -58,9 +61,9 @@ module _ (pixel : Bool) (limits : Limits) (w : List ℕ) (place s : Quadwords) (
       pub going-done :
           (kind : Kind) (push : Bool) {b : Bool} {v : Verdict} → pixel ≡ isPixel kind → b ≡ isSlotBelow (slots 0) left → b ≡ false
           → v ≡ pushVerdict push count place → v ≡ firstBroken (clauseChecks kind push limits w place s n)
-      going-done kind push p x z =
+      going-done kind push p x z f =
           clause-done pixel limits w place s n kind push inside-is p (a .along)
-          (omega (arith, ltb-false 0 (left .0) (sym x ∙ z)))
+          (omega (arith, ltb-false 0 (left .0) (sym x ∙ z))) (f ∙ ap (λ (k : Count). pushVerdict push k place) (a .count-is))
 
       module _ {b : Bool} (x : b ≡ isSlotBelow (slots 0) left) (z : b ≡ true) where
         some : 0 < left .0
@@ -107,13 +110,18 @@ module _ (pixel : Bool) (limits : Limits) (w : List ℕ) (place s : Quadwords) (
                 let k = passed-few limits pixel w at left f q in
                 let l : left' .0 ≡ left .0 - span .0 = ap (λ (u : Slots). u .0) d in
                 let next : n .0 - left' .0 ≡ n .0 - left .0 + span .0 = omega (arith, k .1, l, a .few) in
-                let there : at .0 + span .0 ≡ s .0 + (n .0 - left' .0) = omega (arith, next, at-number) in
+                let there = along-passed pixel limits w place s n (a .along) (omega (arith, some, a .few)) step-is q (ap slots next) in
+                let reached : at .0 + span .0 ≡ s .0 + (n .0 - left' .0) = omega (arith, next, at-number) in
                 record {
                   few = omega (arith, l, a .few);
                   at-is =
                       g
                       ∙ ap quadwords (capped-exact (at .0 + span .0) (omega (arith, k .1, at-number, reach, a .few, h)))
-                      ∙ ap quadwords there;
-                  along =
-                      along-passed pixel limits w place s n (a .along) (omega (arith, some, a .few)) step-is q m (ap slots next);
+                      ∙ ap quadwords reached;
+                  passed = _;
+                  count-is =
+                      m
+                      ∙ (λ i. together (a .count-is i) (there .1 i))
+                      ∙ counted-together (a .passed) _;
+                  along = there .0;
                 }

@@ -63,10 +63,10 @@ module _ (w : List ℕ) (at : Quadwords) (left : Slots) where
   size-short : (j : ℕ) → j < 5 → left .0 ≤ j → sizeFrom w at left j (5 - j) ≡ 0
   size-short j l m = rw (left-over j l, look j (5 - (j + 1)), le-ltb j (left .0) m)
 
-  size-here : (j : ℕ) → j < 5 → j < left .0 → isLast (lowOf w at j) ≡ true → sizeFrom w at left j (5 - j) ≡ j + 1
+  pub size-here : (j : ℕ) → j < 5 → j < left .0 → isLast (lowOf w at j) ≡ true → sizeFrom w at left j (5 - j) ≡ j + 1
   size-here j l m e = rw (left-over j l, look j (5 - (j + 1)), lt-ltb j (left .0) m, e) (sym (add-one j))
 
-  size-next :
+  pub size-next :
       (j : ℕ) → j < 5 → j < left .0 → isLast (lowOf w at j) ≡ false
       → sizeFrom w at left j (5 - j) ≡ sizeFrom w at left (j + 1) (5 - (j + 1))
   size-next j l m e = rw (left-over j l, look j (5 - (j + 1)), lt-ltb j (left .0) m, e, add-one j)

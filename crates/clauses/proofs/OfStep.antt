@@ -1,4 +1,4 @@
--- What a group comes to, from a glance or from all that was read of it, and what that says of the clause. Assumes nothing.
+-- What a group comes to, from all that was read of it, and what that says of the clause. Assumes nothing.
 use Prim.Native.Nat.{ℕ, _+_, _-_, _≤_, _<_, _^_}
 use mathlib.Core.Path.{_≡_, refl, sym, ap, _∙_, subst}
 use mathlib.Core.Bool.{Bool, true, false, cond, not, _&&_, false≢true, true≢false}
@@ -23,15 +23,13 @@ use Rattle.groups.specs.declared.GroupFault.{GroupFault}
 use Rattle.groups.specs.declared.GroupFault.the-variants.{Clean}
 use Rattle.groups.specs.declared.GroupFault.the-variants as fault
 use Rattle.groups.specs.Group.{issued}
-use Rattle.groups.specs.Code.{countOf, together, issuesOf, seenOf, faultOf}
+use Rattle.groups.specs.Code.{countOf, issuesOf, seenOf, faultOf}
 use Rattle.groups.proofs.OfGroup.{FaultIn, fault-in}
-use Rattle.clauses.specs.declared.screen.Glance.{Glance}
 use Rattle.clauses.specs.declared.Group.{Group}
 use Rattle.clauses.specs.declared.Step.{Step}
 use Rattle.clauses.specs.declared.Step.the-variants.{Passed, Broken}
 use Rattle.clauses.specs.Clause.{lowOf, highOf, sizeOf, spanOf, badShape, sizeAt, spanAt, groupsOf, mayKill, checksOf}
 use Rattle.clauses.specs.CodeRead.{groupOf, endsClause, stepBy, stepOf}
-use Rattle.clauses.specs.CodeScreen.{Passes}
 use Rattle.clauses.proofs.OfRead.{size-few, bad-size, bad-span, good, shaped}
 use Rattle.clauses.proofs.OfClause.{Along, along-bad, along-fault, along-next}
 
@@ -70,10 +68,6 @@ module _ (limits : Limits) (pixel : Bool) (w : List ℕ) (at : Quadwords) (left 
       → stepBy x s c ≡ stepOf limits pixel w at left
   unfolding stepOf
   by-fault h {x} f {s} e {c} g = (λ i. stepBy (f i) (e i) (g i)) ∙ rw h
-
-  -- a group that passes at a glance
-  pub step-passes : {x : Glance} → Passes limits w at left pixel x → Passed (x .span) (x .setters) ≡ stepOf limits pixel w at left
-  step-passes p = by-fault (good w at left (p .sized) (p .fits)) (sym (p .clean)) (p .spans) (p .counts)
 
   -- a group that was read
   module _ (group : Group) (e : group ≡ groupOf limits w at left) where
@@ -170,8 +164,8 @@ same-end n g span l m = by (ltb (span .0) (n .0 - g .0)) refl
     by true e = sym (ne-eqb (g .0 + span .0) (n .0) (λ z. absurd (omega (arith, z, ltb-true (span .0) (n .0 - g .0) e))))
     by false e = sym (eq-eqb (g .0 + span .0) (n .0) (omega (arith, l, m, ltb-false (span .0) (n .0 - g .0) e)))
 
-module _ (pixel : Bool) (limits : Limits) (w : List ℕ) (place s : Quadwords) (n : Slots) {count : Count} {g : Slots}
-    (a : Along pixel limits w place s n count g) (l : g .0 < n .0) {x : Step}
+module _ (pixel : Bool) (limits : Limits) (w : List ℕ) (place s : Quadwords) (n : Slots) {passed : ℕ} {g : Slots}
+    (a : Along pixel limits w place s n passed g) (l : g .0 < n .0) {x : Step}
     (e : x ≡ stepOf limits pixel w (slotQuadword s g) (slotsLeft n g)) where
   abbrev fault-here : GroupFault
   fault-here = fault-of limits pixel w (slotQuadword s g) (slotsLeft n g)
@@ -209,20 +203,23 @@ module _ (pixel : Bool) (limits : Limits) (w : List ℕ) (place s : Quadwords) (
           along-fault pixel limits w place s n a l f (sym k ∙ fault-is f) refl
           ∙ ap verdict-of h
 
+  -- the setters of this group
+  abbrev own-setters : ℕ
+  own-setters = issued Predicate (highOf w (slotQuadword s g)) (sizeAt w s n g)
+
   -- one that breaks none leads to the next
   pub along-passed :
-      {k next : Slots} {own more : Count} → x ≡ Passed k own → more ≡ together count own → next ≡ slotBehind g k
-      → Along pixel limits w place s n more next
+      {k next : Slots} {own : Count} → x ≡ Passed k own → next ≡ slotBehind g k
+      → Along pixel limits w place s n (passed + own-setters) next × (own ≡ countOf own-setters)
   unfolding stepOf
-  along-passed {k = k} {next = next} {own = own} {more = more} q t p =
+  along-passed {k = k} {next = next} {own = own} q p =
       by (badShape w (slotQuadword s g) (slotsLeft n g)) refl fault-here refl (sym e ∙ q)
     where
       by :
           (b : Bool) → badShape w (slotQuadword s g) (slotsLeft n g) ≡ b → (y : GroupFault) → fault-here ≡ y
           → cond b (Broken 10 (slots 0)) (stepBy y (spanAt w s n g) (count-of limits pixel w (slotQuadword s g) (slotsLeft n g))) ≡ Passed k own
-          → Along pixel limits w place s n more next
+          → Along pixel limits w place s n (passed + own-setters) next × (own ≡ countOf own-setters)
       by true f y d h = absurd (false≢true (ap isPassed h))
       by false f (fault.Broken r' b') d h = absurd (false≢true (ap isPassed h))
       by false f Clean d h =
-          subst (Along pixel limits w place s n more) (ap (λ (v : Step). slotBehind g (spanIn v)) h ∙ sym p)
-          (along-next pixel limits w place s n a l f (sym d ∙ fault-is f) refl (sym (ap countIn h)) t)
+          (subst (Along pixel limits w place s n (passed + own-setters)) (ap (λ (v : Step). slotBehind g (spanIn v)) h ∙ sym p) (along-next pixel limits w place s n a l f (sym d ∙ fault-is f) refl), sym (ap countIn h))

@@ -1,47 +1,59 @@
--- What a group's glance says: nothing where it has no slots, and else that the group breaks nothing. It is for the code alone.
-use Prim.Native.Nat.{ℕ, _≤_, _<_}
+-- What is kept of a clause's groups at a glance, and what is known of a clause that passes. It is for the code alone.
+use Prim.Native.Nat.{ℕ, _+_, _-_, _*_, _/_, _%_, _^_, _≤_}
 use mathlib.Core.Path.{_≡_}
-use mathlib.Core.Bool.{Bool, true, false, cond, not, _&&_, _||_}
+use mathlib.Core.Bool.{Bool, true, cond, _||_}
 use mathlib.Core.List.{List}
+use lib.Dec.{eqb}
+use lib.ListN.{length}
 use Rattle.units.specs.declared.Quadwords.{Quadwords}
 use Rattle.units.specs.declared.Slots.{Slots}
-use Rattle.units.specs.Units.{slots, slotBehind}
+use Rattle.units.specs.Units.{quadwords}
+use Rattle.checks.specs.declared.Verdict.the-variants.{Accepted}
+use Rattle.checks.specs.Checks.{firstBroken}
+use Rattle.card.specs.declared.Kind.{Kind}
 use Rattle.formats.specs.Fields.{_of_, «BANK_SWIZZLE»}
-use Rattle.opcodes.specs.declared.alu.Class.{Class}
-use Rattle.opcodes.specs.declared.alu.Issue.the-variants.{Predicate}
-use Rattle.opcodes.specs.Alu.{isTaken}
 use Rattle.grants.specs.declared.Limits.{Limits}
-use Rattle.groups.specs.declared.Issues.{Issues}
-use Rattle.groups.specs.declared.GroupFault.the-variants.{Clean}
-use Rattle.groups.specs.Group.{issued}
-use Rattle.groups.specs.Code.{Taken, badUnit, countOf, seenOf, badIssues, faultOf}
-use Rattle.screens.specs.Code.{startsOf, widthsOf, brokenBy}
-use Rattle.clauses.specs.declared.screen.Glance.{Glance}
-use Rattle.clauses.specs.CodeRead.{endsClause}
-use Rattle.clauses.specs.Clause.{lowOf, highOf, sizeOf, spanOf}
+use Rattle.groups.specs.Code.{Taken, badUnit, occupied, tallyOf}
+use Rattle.screens.specs.Code.{moreLiterals, brokenBy}
+use Rattle.clauses.specs.declared.screen.Tally.{Tally}
+use Rattle.clauses.specs.Clause.{highOf, isPixel, clauseChecks}
 
--- an instruction breaks rule 12 or 15, 11 or 13
-unfoldable pub isWrong : List ℕ → List ℕ → Taken → Class → ℕ → ℕ → ℕ → Bool
-isWrong starts widths taken class unit lo hi =
-    cond (brokenBy starts widths lo hi) true (not (isTaken class) || badUnit taken unit («BANK_SWIZZLE» of hi))
+abbrev pub noTally : Tally
+noTally = record { taken = 0; issued = 0; literals = 0 }
 
--- the group keeps rules 10 to 15, and takes so many slots
-pub record Passes (limits : Limits) (w : List ℕ) (at : Quadwords) (left : Slots) (pixel : Bool) (r : Glance) : Type 0 where
-  pub sized : sizeOf w at left ≡ 0 → ⊥
-  pub spans : r .span ≡ spanOf w at left
-  pub fits : spanOf w at left .0 ≤ left .0
-  pub clean :
-      faultOf (seenOf limits (lowOf w at) (highOf w at) (sizeOf w at left)) (sizeOf w at left) (pixel && endsClause left (spanOf w at left)) ≡ Clean
-  pub counts : r .setters ≡ countOf (issued Predicate (highOf w at) (sizeOf w at left))
+-- an instruction breaks rule 12 or 15, 11 or 13; its class is given as one number
+unfoldable pub isWrong : List ℕ → List ℕ → Taken → ℕ → ℕ → ℕ → ℕ → Bool
+isWrong starts widths taken code unit lo hi =
+    cond (brokenBy starts widths lo hi) true (eqb (code % 4) 0 || badUnit taken unit («BANK_SWIZZLE» of hi))
 
--- if the glance has slots, by the gaps of a clause's limits, the group passes
-pub record ScreenedBy (starts widths w : List ℕ) (at : Quadwords) (left : Slots) (pixel : Bool) (r : Glance) : Type 0 where
-  pub passes :
-      (limits : Limits) → starts ≡ startsOf limits → widths ≡ widthsOf limits → 0 < r .span .0 → Passes limits w at left pixel r
+-- one instruction more
+abbrev pub withOne : Tally → ℕ → ℕ → ℕ → ℕ → Tally
+withOne t code unit lo hi =
+    record {
+      taken = occupied (t .taken) unit;
+      issued = t .issued + 16 ^ (code / 4 % 8);
+      literals = moreLiterals (t .literals) lo hi;
+    }
 
--- at the group's end: its slots fit, and its issues keep rule 14
-pub record Closes (issues : Issues) (size : Slots) (literals : ℕ) (left : Slots) (pixel : Bool) (r : Glance) : Type 0 where
-  pub spans : r .span ≡ slotBehind size (slots literals)
-  pub fits : slotBehind size (slots literals) .0 ≤ left .0
-  pub keeps : badIssues issues (size .0) (pixel && endsClause left (slotBehind size (slots literals))) ≡ false
-  pub counts : r .setters ≡ issues .setters
+-- all of it where the group goes on, nothing where it has ended
+abbrev pub keptOf : ℕ → Tally → Tally
+keptOf stays t = record { taken = stays * t .taken; issued = stays * t .issued; literals = stays * t .literals }
+
+-- how many instructions were counted, and the first of them where the last stands at a quadword
+abbrev pub sizeIn : ℕ → ℕ
+sizeIn n = n % 16 + n / 16 % 16 + n / 256 % 16 + n / 4096 % 16 + n / 65536
+
+abbrev pub firstOf : ℕ → ℕ → Quadwords
+firstOf at n = quadwords (at + 1 - sizeIn n)
+
+-- a group's last instruction stands at that quadword, in the buffer, and its issue kinds are counted
+pub record Ends (w : List ℕ) (at n : ℕ) : Type 0 where
+  pub few : sizeIn n ≤ 5
+  pub some : sizeIn n ≤ at + 1
+  pub inside : 2 * at + 2 ≤ length w
+  pub counts : n ≡ tallyOf (highOf w (firstOf at n)) (sizeIn n)
+
+-- the clause breaks nothing
+pub record Kept (limits : Limits) (pixel push : Bool) (w : List ℕ) (s : Quadwords) (n : Slots) : Type 0 where
+  pub accepts :
+      (kind : Kind) (place : Quadwords) → pixel ≡ isPixel kind → Accepted ≡ firstBroken (clauseChecks kind push limits w place s n)

@@ -12,10 +12,13 @@ use units::Quadwords;
 use units::Slots;
 use units::Words;
 ghost use mathlib.Core.Path.{_≡_};
+ghost use mathlib.Core.Bool.{true};
+ghost use lib.ListN.{length};
 ghost use Rattle.checks.specs.Checks.{firstBroken};
 ghost use Rattle.checks.specs.declared.Place.the-variants.{Quadword};
 ghost use Rattle.checks.specs.declared.Verdict.the-variants.{Refused};
-ghost use Rattle.screens.specs.Code.{startsOf, widthsOf};
+ghost use Rattle.card.specs.declared.Kind.{Kind};
+ghost use Rattle.units.specs.Units as counts;
 ghost use Rattle.clauses.specs.Clause.{isPixel, clauseChecks};
 ghost use Rattle.clauses.specs.CodeRead.{stepOf, groupOf, noGroup, pushVerdict, Readable};
 
@@ -51,14 +54,31 @@ pub fn alu_clause(
         return Verdict::Accepted;
     }
     let pixel = is_pixel(kind);
-    let starts = screens::gap_starts(limits);
-    let widths = screens::gap_widths(limits);
+    if screen::is_clean(words, start, slots, push_before, pixel, limits) {
+        return Verdict::Accepted;
+    }
+    first_fault(words, place, start, slots, push_before, pixel, limits)
+}
+
+// The same, group by group, with all that the first broken rule is told by.
+fn first_fault(
+    words: &[u32],
+    place: Quadwords,
+    start: Quadwords,
+    slots: Slots,
+    push_before: bool,
+    pixel: bool,
+    limits: Limits,
+) -> Verdict
+    requires { ⌜ counts.liesIn (counts.words (length (now words))) start (counts.slotsLength slots) ≡ true ⌝ }
+    ensures { λ r. ⌜ ((kind : Kind) → pixel ≡ isPixel kind → r ≡ firstBroken (clauseChecks kind «push_before» limits (now (words .entry)) place start slots)) ⌝ }
+{
     let mut setters = Count::Nothing;
     // The next group: the quadword of its first slot, and the slots left from there on.
     let mut at = start;
     let mut left = slots;
     while units::is_slot_below(Slots(0), left) {
-        let step = next_group(words, at, left, limits, &starts, &widths, pixel);
+        let step = judge_group(words, at, left, limits, pixel);
         match step {
             Step::Broken(rule, behind) => {
                 let passed = units::slots_left(slots, left);
@@ -74,31 +94,7 @@ pub fn alu_clause(
     push_verdict(push_before, setters, place)
 }
 
-// The group whose first slot is quadword `at`, with so many slots left in its clause: at a glance if it breaks nothing, else looked at again.
-fn next_group(
-    words: &[u32],
-    at: Quadwords,
-    left: Slots,
-    limits: Limits,
-    starts: &[u32; 32],
-    widths: &[u32; 32],
-    pixel: bool,
-) -> Step
-    requires { ⌜ Readable (now words) at left ⌝ }
-    requires { ⌜ now starts ≡ startsOf limits ⌝ }
-    requires { ⌜ now widths ≡ widthsOf limits ⌝ }
-    ensures { λ r. ⌜ r ≡ stepOf limits pixel (now (words .entry)) at left ⌝ }
-{
-    let glance = screen::screen_group(words, at, left, starts, widths, pixel);
-    let span = glance.span;
-    if units::is_slot_below(Slots(0), span) {
-        let own = glance.setters;
-        return Step::Passed(span, own);
-    }
-    judge_group(words, at, left, limits, pixel)
-}
-
-// The same with all that its first broken rule is told by.
+// The group whose first slot is quadword `at`, with so many slots left in its clause.
 fn judge_group(words: &[u32], at: Quadwords, left: Slots, limits: Limits, pixel: bool) -> Step
     requires { ⌜ Readable (now words) at left ⌝ }
     ensures { λ r. ⌜ r ≡ stepOf limits pixel (now (words .entry)) at left ⌝ }

@@ -1,44 +1,99 @@
-// A group at a glance: each instruction is asked whether it breaks anything, and none of it is noted, since an accepted pack breaks
-// nothing. A group that does not pass so is looked at again, by `judge_group`, which tells what it breaks.
+// A clause at a glance: whether it breaks nothing, in one loop over its instructions, without saying what is broken. An accepted pack breaks
+// nothing, so nothing more is asked of most clauses; one that does not pass so is looked at again, group by group, by `alu_clause`.
+//
+// The loop is the judge's innermost, and no branch in it goes by what packs mix but for two: an instruction with a literal, and a group with more
+// in it than plain instructions and one setter. Where a group ends is no branch: what was kept of it is masked away.
 use bits::read;
 use formats::fields;
-use groups::Issues;
+use grants::Limits;
 use groups::alu_units;
-use groups::counts::Count;
-use instructions::class_of;
-use opcodes::alu::Class;
 use units::Quadwords;
 use units::Slots;
-use units::Words;
 ghost use mathlib.Core.Path.{_≡_};
-ghost use Prim.Native.Nat.{_≤_, _<_};
+ghost use mathlib.Core.Bool.{true, false, not, _&&_};
+ghost use Prim.Native.Nat.{_+_, _*_, _/_, _%_, _^_, _≤_, _<_};
+ghost use lib.Dec.{ltb};
+ghost use lib.ListN.{length};
+ghost use Rattle.units.specs.Units as counts;
 ghost use Rattle.formats.specs.Fields.{_of_, «DST_CHAN»};
 ghost use Rattle.instructions.specs.Instruction.{hasRelative};
-ghost use Rattle.groups.specs.Code.{unitFor, isUneven, nextIssues};
-ghost use Rattle.clauses.specs.CodeRead.{Readable};
-ghost use Rattle.clauses.specs.CodeScreen.{ScreenedBy, Closes, isWrong};
+ghost use Rattle.groups.specs.Group.{anyBelow};
+ghost use Rattle.groups.specs.Code.{unitBy, isStraight, Issued};
+ghost use Rattle.clauses.specs.Clause.{lowOf, highOf};
+ghost use Rattle.clauses.specs.CodeScreen.{noTally, isWrong, withOne, keptOf, sizeIn, firstOf, Ends, Kept};
 
-// The slots that a group takes and the setters in it. No slots: it has to be looked at again.
-pub(crate) struct Glance {
-    pub span: Slots,
-    pub setters: Count,
+// What is kept of the group that is being read.
+pub(crate) struct Tally {
+    // The units taken, as bits.
+    pub taken: u32,
+    // A digit of four bits for each issue kind: plain instructions, setters, kills, MOVAs, reductions.
+    pub issued: u32,
+    pub literals: u32,
 }
 
-fn again() -> Glance
-    ensures { λ r. ⌜ r .span .0 ≡ 0 ⌝ }
+// Whether the clause of `slots` slots from `start` on breaks nothing. It may say no of one that doesn't.
+pub(crate) fn is_clean(
+    words: &[u32],
+    start: Quadwords,
+    slots: Slots,
+    push_before: bool,
+    pixel: bool,
+    limits: Limits,
+) -> bool
+    requires { ⌜ counts.liesIn (counts.words (length (now words))) start (counts.slotsLength slots) ≡ true ⌝ }
+    ensures { λ r. ⌜ (r ≡ true → Kept limits pixel «push_before» (now (words .entry)) start slots) ⌝ }
 {
-    Glance {
-        span: Slots(0),
-        setters: Count::Nothing,
+    let starts = screens::gap_starts(limits);
+    let widths = screens::gap_widths(limits);
+    let end = start.0 + slots.0;
+    let mut at = start.0;
+    let mut setters = 0;
+    let mut seen = none_seen();
+    while at < end {
+        let low = words[2 * at];
+        let high = words[2 * at + 1];
+        let code = instructions::class_code(high);
+        let unit = unit_of(seen.taken, code, high);
+        if is_wrong(&starts, &widths, seen.taken, code, unit, low, high) {
+            return false;
+        }
+        let more = with_one(seen, code, unit, low, high);
+        let last = read(low, fields::LAST);
+        let next = at + 1 + only_if(last, more.literals) as usize;
+        let issued = only_if(last, more.issued);
+        if breaks_14(words, at, more, issued, pixel & (next == end)) {
+            return false;
+        }
+        setters += (issued / 16 % 16) as usize;
+        seen = kept(1 - last, more);
+        at = next;
+    }
+    (at == end) & ((seen.issued == 0) & (!push_before | (setters == 1)))
+}
+
+fn none_seen() -> Tally
+    ensures { λ r. ⌜ r ≡ noTally ⌝ }
+{
+    Tally {
+        taken: 0,
+        issued: 0,
+        literals: 0,
     }
 }
 
-// The unit that an instruction of this class gets.
-fn unit_of(taken: u32, class: Class, high: u32) -> u32
-    ensures { λ r. ⌜ r ≡ unitFor taken (class .unit) («DST_CHAN» of high) ⌝ }
+// x where `bit` is 1, and 0 where it is 0.
+fn only_if(bit: u32, x: u32) -> u32
+    requires { ⌜ bit < 2 ⌝ }
+    ensures { λ r. ⌜ r ≡ bit * x ⌝ }
 {
-    let unit = class.unit;
-    alu_units::unit_for(taken, unit, read(high, fields::DST_CHAN))
+    x & std::num::wrapping_sub_u32(0, bit)
+}
+
+// The unit that an instruction of this class gets.
+fn unit_of(taken: u32, code: u32, high: u32) -> u32
+    ensures { λ r. ⌜ r ≡ unitBy taken (code % 4) («DST_CHAN» of high) ⌝ }
+{
+    alu_units::unit_by_code(taken, code, read(high, fields::DST_CHAN))
 }
 
 // Rules 11, 12, 13 and 15.
@@ -46,95 +101,139 @@ fn is_wrong(
     starts: &[u32; 32],
     widths: &[u32; 32],
     taken: u32,
-    class: Class,
+    code: u32,
     unit: u32,
     low: u32,
     high: u32,
 ) -> bool
-    ensures { λ r. ⌜ r ≡ isWrong (now (starts .entry)) (now (widths .entry)) taken class unit low high ⌝ }
+    ensures { λ r. ⌜ r ≡ isWrong (now (starts .entry)) (now (widths .entry)) taken code unit low high ⌝ }
 {
     if screens::breaks_alone(starts, widths, low, high) {
         return true;
     }
-    let number = opcodes::alu::is_taken(class);
-    !number | alu_units::is_bad_unit(taken, unit, read(high, fields::BANK_SWIZZLE))
+    (code % 4 == 0) | alu_units::is_bad_unit(taken, unit, read(high, fields::BANK_SWIZZLE))
 }
 
-// Rule 14's figures with the instruction in slot j, in that unit, too; `first` is the high word of the group's first.
-fn more_issues(
-    issues: Issues,
-    class: Class,
-    j: Slots,
-    unit: u32,
-    first: u32,
-    low: u32,
-    high: u32,
-) -> Issues
-    ensures { λ r. ⌜ r ≡ nextIssues issues (class .issue) (hasRelative low high) (isUneven (j .0) unit first high) ⌝ }
+// What is kept, with one instruction more.
+fn with_one(seen: Tally, code: u32, unit: u32, low: u32, high: u32) -> Tally
+    requires { ⌜ seen .issued < 2 ^ 31 ⌝ }
+    ensures { λ r. ⌜ r ≡ withOne seen code unit low high ⌝ }
 {
-    let issue = class.issue;
-    let relative = instructions::has_relative(low, high);
-    let uneven = alu_units::is_uneven(j, unit, first, high);
-    groups::next_issues(issues, issue, relative, uneven)
-}
-
-// The group whose first slot is quadword `at`, with so many slots left in its clause, by the gaps of the clause's limits. Its loop is the
-// judge's innermost, so words are counted plainly: instruction j starts 2j words behind the group's first.
-pub(crate) fn screen_group(
-    words: &[u32],
-    at: Quadwords,
-    left: Slots,
-    starts: &[u32; 32],
-    widths: &[u32; 32],
-    pixel: bool,
-) -> Glance
-    requires { ⌜ Readable (now words) at left ⌝ }
-    ensures { λ r. ⌜ ScreenedBy (now (starts .entry)) (now (widths .entry)) (now (words .entry)) at left pixel r ⌝ }
-{
-    // It is in the buffer; asked here, it shows the compiler that no word's number reaches the cap.
-    if !units::is_below(at, units::whole_quadwords(Words(words.len()))) {
-        return again();
+    Tally {
+        taken: alu_units::occupy(seen.taken, unit),
+        issued: seen.issued + weight(code),
+        literals: screens::more_literals(seen.literals, low, high),
     }
-    let first = units::low_word(at).0;
-    let first_high = words[first + 1];
-    // The instructions of a group that may be read: five, or those left in its clause.
-    let most = units::smaller(left.0, 5);
-    let mut literals = 0;
-    let mut taken = 0;
-    let mut issues = groups::none_seen().issues;
+}
+
+// One in the digit of the class's issue kind.
+fn weight(code: u32) -> u32
+    ensures { λ r. ⌜ r ≡ 16 ^ (code / 4 % 8) ⌝ }
+{
+    1 << (code / 4 % 8 * 4)
+}
+
+// What is kept of it where the group goes on, and nothing where it has ended.
+fn kept(stays: u32, seen: Tally) -> Tally
+    requires { ⌜ stays < 2 ⌝ }
+    ensures { λ r. ⌜ r ≡ keptOf stays seen ⌝ }
+{
+    Tally {
+        taken: only_if(stays, seen.taken),
+        issued: only_if(stays, seen.issued),
+        literals: only_if(stays, seen.literals),
+    }
+}
+
+// Rule 14 where the group ends, which `issued` says: plain instructions and one setter break nothing, and most groups have nothing else.
+fn breaks_14(words: &[u32], at: usize, seen: Tally, issued: u32, may_kill: bool) -> bool
+    requires { ⌜ Ends (now words) at (seen .issued) ⌝ }
+    ensures { λ r. ⌜ (r ≡ false → 31 < issued → Issued (lowOf (now (words .entry)) (firstOf at (seen .issued))) (highOf (now (words .entry)) (firstOf at (seen .issued))) (sizeIn (seen .issued)) (seen .taken) «may_kill») ⌝ }
+{
+    if issued < 32 {
+        return false;
+    }
+    breaks_counted(words, at, seen, may_kill)
+}
+
+// The same by what is counted in the group whose last slot is quadword `at`; `may_kill` where kills may stand.
+fn breaks_counted(words: &[u32], at: usize, seen: Tally, may_kill: bool) -> bool
+    requires { ⌜ Ends (now words) at (seen .issued) ⌝ }
+    ensures { λ r. ⌜ (r ≡ false → Issued (lowOf (now (words .entry)) (firstOf at (seen .issued))) (highOf (now (words .entry)) (firstOf at (seen .issued))) (sizeIn (seen .issued)) (seen .taken) «may_kill») ⌝ }
+{
+    let issued = seen.issued;
+    let kills = issued / 256 % 16;
+    if 1 < issued / 16 % 16 + kills {
+        return true;
+    }
+    if (0 < kills) & !may_kill {
+        return true;
+    }
+    let size = size_in(issued) as usize;
+    let first = at + 1 - size;
+    let movas = breaks_mova(words, first, size, issued);
+    movas | breaks_reduction(words, first, size, seen)
+}
+
+// No MOVA in a group with any relative bit set.
+fn breaks_mova(words: &[u32], first: usize, size: usize, issued: u32) -> bool
+    requires { ⌜ 2 * (first + size) ≤ length (now words) ⌝ }
+    ensures { λ r. ⌜ r ≡ (ltb 0 (issued / 4096 % 16) && anyBelow (λ j. hasRelative (lowOf (now (words .entry)) (counts.quadwords first) j) (highOf (now (words .entry)) (counts.quadwords first) j)) size) ⌝ }
+{
+    if issued / 4096 % 16 == 0 {
+        return false;
+    }
+    has_relative(words, first, size)
+}
+
+// A reduction fills all four vector units.
+fn breaks_reduction(words: &[u32], first: usize, size: usize, seen: Tally) -> bool
+    requires { ⌜ 2 * (first + size) ≤ length (now words) ⌝ }
+    ensures { λ r. ⌜ r ≡ (ltb 0 (seen .issued / 65536) && not (isStraight (highOf (now (words .entry)) (counts.quadwords first)) size (seen .taken))) ⌝ }
+{
+    if seen.issued / 65536 == 0 {
+        return false;
+    }
+    !is_straight(words, first, size, seen.taken)
+}
+
+// The instructions of a group.
+fn size_in(issued: u32) -> u32
+    ensures { λ r. ⌜ r ≡ sizeIn issued ⌝ }
+{
+    issued % 16 + issued / 16 % 16 + issued / 256 % 16 + issued / 4096 % 16 + issued / 65536
+}
+
+// Whether any relative bit is set in the group of `size` instructions from quadword `first` on.
+fn has_relative(words: &[u32], first: usize, size: usize) -> bool
+    requires { ⌜ 2 * (first + size) ≤ length (now words) ⌝ }
+    ensures { λ r. ⌜ r ≡ anyBelow (λ j. hasRelative (lowOf (now (words .entry)) (counts.quadwords first) j) (highOf (now (words .entry)) (counts.quadwords first) j)) size ⌝ }
+{
+    let mut any = false;
     let mut j = 0;
-    while j < most {
-        let low = words[first + 2 * j];
-        let high = words[first + 2 * j + 1];
-        let class = class_of(high);
-        let unit = unit_of(taken, class, high);
-        if is_wrong(starts, widths, taken, class, unit, low, high) {
-            return again();
-        }
-        issues = more_issues(issues, class, Slots(j), unit, first_high, low, high);
-        literals = screens::more_literals(literals, low, high);
-        taken = alu_units::occupy(taken, unit);
+    while j < size {
+        let low = words[2 * (first + j)];
+        let high = words[2 * (first + j) + 1];
+        any = any | instructions::has_relative(low, high);
         j += 1;
-        if read(low, fields::LAST) == 1 {
-            return close(issues, Slots(j), literals, left, pixel);
-        }
     }
-    again()
+    any
 }
 
-// The group at its last instruction: rules 10 and 14.
-fn close(issues: Issues, size: Slots, literals: u32, left: Slots, pixel: bool) -> Glance
-    requires { ⌜ size .0 ≤ 5 ⌝ }
-    ensures { λ r. ⌜ (0 < r .span .0 → Closes issues size literals left pixel r) ⌝ }
+// Whether its first four are in the four vector units and alike.
+fn is_straight(words: &[u32], first: usize, size: usize, taken: u32) -> bool
+    requires { ⌜ 2 * (first + size) ≤ length (now words) ⌝ }
+    ensures { λ r. ⌜ r ≡ isStraight (highOf (now (words .entry)) (counts.quadwords first)) size taken ⌝ }
 {
-    let span = units::slot_behind(size, Slots(literals as usize));
-    if units::is_slot_below(left, span) {
-        return again();
+    if size < 4 {
+        return false;
     }
-    let ends = !units::is_slot_below(span, left);
-    if groups::is_bad_issue(issues, size, pixel & ends) {
-        return again();
+    if taken % 16 != 15 {
+        return false;
     }
-    let setters = issues.setters;
-    Glance { span, setters }
+    let one = words[2 * first + 1];
+    let second = alu_units::is_alike(one, words[2 * first + 3]);
+    let third = alu_units::is_alike(one, words[2 * first + 5]);
+    let fourth = alu_units::is_alike(one, words[2 * first + 7]);
+    second & (third & fourth)
 }

@@ -1,13 +1,10 @@
 -- Decoder and encoder, by what its code tests and calls on the way to each answer. Assumes nothing.
 use mathlib.Core.Path.{_≡_, refl, sym, ap, _∙_}
-use mathlib.Core.Logic.{⊎-elim}
 use mathlib.Core.Bool.{true, false, cond}
-use mathlib.Core.List.{List, [], _∷_}
+use mathlib.Core.List.{List}
 use Prim.Native.Nat.{ℕ, _≤_, _<_}
 use native.Mathlib.Omega.{arith}
 use lib.ListN.{length}
-use types.Run.{OneOf}
-use denote.Enum.Declared.{tagOf}
 use borrow.Author.Tests.{le-leb, lt-leb}
 use Rattle.units.specs.Units.{words}
 use Rattle.checks.specs.Verdict.{verdictNumber}
@@ -17,7 +14,6 @@ use Rattle.microcode.specs.declared.Decoded.the-variants.{Outside, NotTaken, Ta
 use Rattle.microcode.specs.declared.Encoded.{Encoded}
 use Rattle.microcode.specs.declared.Encoded.the-variants.{NoRecord, NoRoom, Done}
 use Rattle.microcode.specs.declared.Stream.{Stream}
-use Rattle.microcode.proofs.Decoded as decoded-type
 use Rattle.microcode.specs.Buffer.{decodeOf, decodedVerdict, encodeAnswer, encodeWords, encodedVerdict}
 use Rattle.codec_for_c.specs.Values.{rowLength, written, formOf, recordOf, roomy, isRecord, streamNumbered, rowAnswer, rowVerdict, rowAfter, isStream, decodedNumber, decodedValues, encodedFrom, encodedNumber, encodedWords}
 
@@ -31,10 +27,6 @@ roomy-no vs h = lt-leb rowLength (length vs) h
 
 -- ---- decoding
 
--- the row of the form that was told
-pub filled : {A : Type 0} (values-of : A → List ℕ) (i j : A) (vs row m : List ℕ) → m ≡ written row vs → row ≡ values-of j → i ≡ j → m ≡ written (values-of i) vs
-filled values-of i j vs row m e f g = e ∙ ap (λ (r : List ℕ). written r vs) (f ∙ ap values-of (sym g))
-
 -- a row, where there is room for the longest form or not
 module _ (row vs : List ℕ) where
   pub write-short : length vs < rowLength → (NoRoom ≡ rowAnswer vs) × (vs ≡ cond (roomy vs) (written row vs) vs)
@@ -43,12 +35,6 @@ module _ (row vs : List ℕ) where
   pub write-all : (m : List ℕ) → rowLength ≤ length vs → m ≡ written row vs → (Done ≡ rowAnswer vs) × (m ≡ cond (roomy vs) (written row vs) vs)
   write-all m h e = (rw (roomy-yes vs h), rw (roomy-yes vs h) e)
 
--- where the code knows that the decoder gave no record, which has tag 2, its refusal is the answer and changes nothing
-refusal : (s : Stream) (d : Decoded) (vs : List ℕ) → OneOf (0 ∷ 1 ∷ []) (tagOf decoded-type.the-type d) → (decodedVerdict s d ≡ rowVerdict s d vs) × (vs ≡ rowAfter d vs)
-refusal s Outside vs h = (refl, refl)
-refusal s NotTaken vs h = (refl, refl)
-refusal s (Taken i) vs h = absurd (⊎-elim (λ p. omega arith) (λ p. omega arith) h)
-
 module _ (stream : ℕ) (l : List ℕ) (start : ℕ) (vs : List ℕ) (s : Stream) (d : Decoded) (is : stream ≤ 1) (e : s ≡ streamNumbered stream) (f : d ≡ decodeOf s l (words start)) where
   answered : (a : Decoded) (n : ℕ) (m : List ℕ) → d ≡ a → n ≡ verdictNumber (rowVerdict s a vs) → m ≡ rowAfter a vs → (n ≡ decodedNumber stream l start vs) × (m ≡ decodedValues stream l start vs)
   unfolding decodedNumber decodedValues isStream
@@ -56,10 +42,11 @@ module _ (stream : ℕ) (l : List ℕ) (start : ℕ) (vs : List ℕ) (s : Stream
       let k : a ≡ decodeOf (streamNumbered stream) l (words start) = sym g ∙ f ∙ ap (λ (t : Stream). decodeOf t l (words start)) e in
       (rw (le-leb stream 1 is) (h ∙ (λ j. verdictNumber (rowVerdict (e j) (k j) vs))), rw (le-leb stream 1 is) (p ∙ ap (λ (x : Decoded). rowAfter x vs) k))
 
-  pub decode-refused : (n : ℕ) → OneOf (0 ∷ 1 ∷ []) (tagOf decoded-type.the-type d) → n ≡ verdictNumber (decodedVerdict s d) → (n ≡ decodedNumber stream l start vs) × (vs ≡ decodedValues stream l start vs)
-  decode-refused n g h =
-      let k = refusal s d vs g in
-      answered d n vs refl (h ∙ ap verdictNumber (k .0)) (k .1)
+  pub decode-outside : (n : ℕ) → d ≡ Outside → n ≡ verdictNumber (decodedVerdict s Outside) → (n ≡ decodedNumber stream l start vs) × (vs ≡ decodedValues stream l start vs)
+  decode-outside n g h = answered Outside n vs g h refl
+
+  pub decode-not-taken : (n : ℕ) → d ≡ NotTaken → n ≡ verdictNumber (decodedVerdict s NotTaken) → (n ≡ decodedNumber stream l start vs) × (vs ≡ decodedValues stream l start vs)
+  decode-not-taken n g h = answered NotTaken n vs g h refl
 
   pub decode-taken : (i : Instruction) (x : Encoded) (n : ℕ) (m : List ℕ) → d ≡ Taken i → x ≡ rowAnswer vs → m ≡ rowAfter (Taken i) vs → n ≡ verdictNumber (encodedVerdict x) → (n ≡ decodedNumber stream l start vs) × (m ≡ decodedValues stream l start vs)
   decode-taken i x n m g h p q = answered (Taken i) n m g (q ∙ ap (λ (y : Encoded). verdictNumber (encodedVerdict y)) h) p

@@ -11,19 +11,18 @@ use fetch_codec::FetchDecoded;
 use fetch_codec::Found;
 use microcode::Decoded;
 use microcode::Encoded;
-use microcode::Instruction;
+use microcode::FoundPair;
 use microcode::Stream;
 use units::Words;
 ghost use mathlib.Core.Path.{_≡_};
 ghost use Prim.Native.Nat.{_≤_};
 ghost use lib.ListN.{length};
 ghost use Rattle.checks.specs.Verdict.{verdictNumber};
-ghost use Rattle.microcode.specs.declared.Decoded.the-variants as decoded;
 ghost use Rattle.microcode.specs.Pair.{streamOf};
 ghost use Rattle.microcode.specs.Buffer.{decodedVerdict, encodedVerdict};
 ghost use Rattle.fetch_codec.specs.Fetch.{kindOf, formKind};
 ghost use Rattle.fetch_codec.specs.Buffer as fetches;
-ghost use Rattle.codec_for_c.specs.Values.{rowLength, streamNumber, streamNumbered, rowAnswer, rowAfter, decodedNumber, decodedValues, written, valuesOf, recordOf, encodedNumber, encodedWords, WordsAgain, RowAgain};
+ghost use Rattle.codec_for_c.specs.Values.{streamNumber, streamNumbered, decodedNumber, decodedValues, written, recordOf, encodedNumber, encodedWords, WordsAgain, RowAgain};
 ghost use Rattle.codec_for_c.specs.FetchValues.{clauseNumber, clauseNumbered, fetchIn, fetchNumber, fetchRow, fetchFromNumber, fetchWords, FetchWordsAgain, FetchRowAgain};
 
 // A row has as many elements or more, whatever its form.
@@ -46,11 +45,16 @@ pub extern "C" fn zlatomruk_decode(
         return encoded_number(Encoded::NoRecord);
     }
     let s = stream_numbered(stream);
-    let d = microcode::decode(words, Words(start), s);
-    let Decoded::Taken(i) = d else {
-        return decoded_number(s, d);
-    };
-    encoded_number(write(i, values))
+    let found = microcode::find(words, Words(start), s);
+    match found {
+        FoundPair::Outside => decoded_number(s, Decoded::Outside),
+        FoundPair::NotTaken => decoded_number(s, Decoded::NotTaken),
+        FoundPair::CfAlu(low, high) => encoded_number(rows::write_cf_alu(low, high, values)),
+        FoundPair::Cf(low, high) => encoded_number(rows::write_cf(low, high, values)),
+        FoundPair::Export(low, high) => encoded_number(rows::write_export(low, high, values)),
+        FoundPair::Op2(low, high) => encoded_number(rows::write_op2(low, high, values)),
+        FoundPair::Op3(low, high) => encoded_number(rows::write_op3(low, high, values)),
+    }
 }
 
 // The record that the values hold, as two words at word `start`. 21 where it can't be encoded, or 32 elements or the form are missing;
@@ -67,8 +71,7 @@ pub extern "C" fn zlatomruk_encode(values: &[u32], words: &mut [u32], start: usi
     if 4 < values[0] {
         return encoded_number(Encoded::NoRecord);
     }
-    let record = records::words_of(values);
-    encoded_number(microcode::write(record, words, Words(start)))
+    encoded_number(records::write(values, words, Words(start)))
 }
 
 // The fetch at word `start` in a clause of that kind, which is the opener's CF number, as values. 21 where it is no fetch clause's; 2 and 8 are
@@ -167,32 +170,6 @@ fn encoded_number(e: Encoded) -> u32
     ensures { λ r. ⌜ r ≡ verdictNumber (encodedVerdict e) ⌝ }
 {
     checks::verdict_number(microcode::encoded_verdict(e)) as u32
-}
-
-// The values of `i`, where there is room.
-fn write(i: Instruction, values: &mut [u32]) -> Encoded
-    ensures { λ r. ⌜ r ≡ rowAnswer (now (values .entry)) ⌝ }
-    ensures { λ r. ⌜ now (values .exit) ≡ rowAfter (decoded.Taken i) (now (values .entry)) ⌝ }
-{
-    let room = values.len();
-    if room < ROW {
-        return Encoded::NoRoom;
-    }
-    fill(i, values);
-    Encoded::Done
-}
-
-fn fill(i: Instruction, values: &mut [u32])
-    requires { ⌜ rowLength ≤ length (now values) ⌝ }
-    ensures { λ r. ⌜ now (values .exit) ≡ written (valuesOf i) (now (values .entry)) ⌝ }
-{
-    match i {
-        Instruction::CfAlu(a, b) => put(&rows::cf_alu_row(a, b), values),
-        Instruction::Cf(a, b) => put(&rows::cf_row(a, b), values),
-        Instruction::Export(a, b) => put(&rows::export_row(a, b), values),
-        Instruction::Op2(a, b) => put(&rows::op2_row(a, b), values),
-        Instruction::Op3(a, b) => put(&rows::op3_row(a, b), values),
-    }
 }
 
 // A row over the beginning of `values`.

@@ -1,4 +1,4 @@
-// The record that values hold, each field read where `rows` puts it.
+// The record that values hold, each field read where `rows` puts it, and its words.
 use formats::alu::AluWord0;
 use formats::alu::AluWord1Op2;
 use formats::alu::AluWord1Op3;
@@ -8,35 +8,65 @@ use formats::cf_alu::CfAluWord0;
 use formats::cf_alu::CfAluWord1;
 use formats::export::CfAllocExportWord0;
 use formats::export::CfAllocExportWord1Swiz;
+use microcode::Encoded;
 use microcode::words;
-use microcode::words::RecordWords;
 use units::Quadwords;
 use units::Slots;
+use units::Words;
 ghost use mathlib.Core.Path.{_≡_};
-ghost use Prim.Native.Nat.{_≤_};
+ghost use Prim.Native.Nat.{_≤_, _<_};
 ghost use lib.ListN.{length};
-ghost use Rattle.microcode.specs.Pair.{wordsOf};
-ghost use Rattle.codec_for_c.specs.Values.{rowLength, recordOf, cfAluWord0At, cfAluWord1At, cfWord0At, cfWord1At, exportWord0At, exportWord1At, aluWord0At, op2At, op3At};
+ghost use Rattle.microcode.specs.Buffer.{encodeAnswer, encodeWords};
+ghost use Rattle.codec_for_c.specs.Values.{rowLength, formOf, recordOf, cfAluWord0At, cfAluWord1At, cfWord0At, cfWord1At, exportWord0At, exportWord1At, aluWord0At, op2At, op3At};
 
-// The words of that record, by the form in element 0; OP3 for any that the others are not.
-pub(crate) fn words_of(values: &[u32]) -> RecordWords
+// The words of that record at `start`, by the form in element 0; OP3 for any that the others are not. Control flow is told from ALU first: of five
+// forms asked for in turn the compiler makes one jump through a table, and reads what they have in common before it (docs/MACHINE-CODE.md).
+pub(crate) fn write(values: &[u32], words: &mut [u32], start: Words) -> Encoded
     requires { ⌜ rowLength ≤ length (now values) ⌝ }
-    ensures { λ r. ⌜ r ≡ wordsOf (recordOf (now (values .entry))) ⌝ }
+    ensures { λ r. ⌜ r ≡ encodeAnswer (recordOf (now (values .entry))) (now (words .entry)) start ⌝ }
+    ensures { λ _. ⌜ now (words .exit) ≡ encodeWords (recordOf (now (values .entry))) (now (words .entry)) start ⌝ }
+{
+    let form = values[0];
+    if form < 3 {
+        return write_control(values, words, start);
+    }
+    write_alu(values, words, start)
+}
+
+// Forms 0 to 2: CF_ALU, CF and export.
+fn write_control(values: &[u32], words: &mut [u32], start: Words) -> Encoded
+    requires { ⌜ rowLength ≤ length (now values) ⌝ }
+    requires { ⌜ formOf (now values) < 3 ⌝ }
+    ensures { λ r. ⌜ r ≡ encodeAnswer (recordOf (now (values .entry))) (now (words .entry)) start ⌝ }
+    ensures { λ _. ⌜ now (words .exit) ≡ encodeWords (recordOf (now (values .entry))) (now (words .entry)) start ⌝ }
 {
     let form = values[0];
     if form == 0 {
-        return words::of_cf_alu(cf_alu_word0(values), cf_alu_word1(values));
+        let record = words::of_cf_alu(cf_alu_word0(values), cf_alu_word1(values));
+        return microcode::write(record, words, start);
     }
     if form == 1 {
-        return words::of_cf(cf_word0(values), cf_word1(values));
+        let record = words::of_cf(cf_word0(values), cf_word1(values));
+        return microcode::write(record, words, start);
     }
-    if form == 2 {
-        return words::of_export(export_word0(values), export_word1(values));
-    }
+    let record = words::of_export(export_word0(values), export_word1(values));
+    microcode::write(record, words, start)
+}
+
+// Forms 3 and 4: OP2 and OP3.
+fn write_alu(values: &[u32], words: &mut [u32], start: Words) -> Encoded
+    requires { ⌜ rowLength ≤ length (now values) ⌝ }
+    requires { ⌜ 3 ≤ formOf (now values) ⌝ }
+    ensures { λ r. ⌜ r ≡ encodeAnswer (recordOf (now (values .entry))) (now (words .entry)) start ⌝ }
+    ensures { λ _. ⌜ now (words .exit) ≡ encodeWords (recordOf (now (values .entry))) (now (words .entry)) start ⌝ }
+{
+    let form = values[0];
     if form == 3 {
-        return words::of_op2(alu_word0(values), alu_op2(values));
+        let record = words::of_op2(alu_word0(values), alu_op2(values));
+        return microcode::write(record, words, start);
     }
-    words::of_op3(alu_word0(values), alu_op3(values))
+    let record = words::of_op3(alu_word0(values), alu_op3(values));
+    microcode::write(record, words, start)
 }
 
 fn cf_alu_word0(values: &[u32]) -> CfAluWord0

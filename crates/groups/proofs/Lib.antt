@@ -4,3 +4,4 @@ pub mod OfBelow
 pub mod OfUnits
 pub mod OfReduction
 pub mod OfGroup
+pub mod OfTally

@@ -58,7 +58,7 @@ counts-one zero = sym (eqb·zero-suc 0)
 counts-one (suc zero) = refl
 counts-one (suc (suc n)) = sym (eqb·suc-suc (suc n) 0 ∙ eqb·suc-zero n)
 
-counts-several : (n : ℕ) → isSeveral (countOf n) ≡ ltb 1 n
+pub counts-several : (n : ℕ) → isSeveral (countOf n) ≡ ltb 1 n
 unfolding isSeveral countOf
 counts-several zero = refl
 counts-several (suc zero) = refl
@@ -89,14 +89,6 @@ one-kind Predicate = refl
 one-kind Kill = refl
 one-kind Mova = refl
 one-kind Reduction = refl
-
--- an issue that is tested to be plain is
-pub plain-if : (i : Issue) → isIssue i Plain ≡ true → i ≡ Plain
-plain-if Plain e = refl
-plain-if Predicate e = absurd (true≢false (sym e))
-plain-if Kill e = absurd (true≢false (sym e))
-plain-if Mova e = absurd (true≢false (sym e))
-plain-if Reduction e = absurd (true≢false (sym e))
 
 module _ (limits : Limits) (lo hi : PerInstruction) where
   pub seen-none : noneSeen ≡ seenOf limits lo hi 0
@@ -136,7 +128,7 @@ answer place g Clean = Accepted
 answer place g (Broken r j) = Refused r (Quadword place) (slotBehind g j)
 
 -- no instruction breaks it
-first-none : (f : ℕ → Bool) (m : ℕ) → firstBelow f m ≡ Nowhere → (j : ℕ) → j < m → f j ≡ false
+pub first-none : (f : ℕ → Bool) (m : ℕ) → firstBelow f m ≡ Nowhere → (j : ℕ) → j < m → f j ≡ false
 unfolding firstBelow orHere
 first-none f zero h j l = absurd (omega arith)
 first-none f (suc m) h j l =

@@ -5,12 +5,13 @@ use mathlib.Core.Path.{_≡_, refl, sym, ap, _∙_}
 use mathlib.Core.Logic.{⊎-elim}
 use mathlib.Core.Bool.{Bool, true, false, cond, not, _&&_, _||_, true≢false}
 use mathlib.Core.List.{List, [], _∷_}
-use Prim.Native.Nat.{ℕ, zero, suc, _<_, _≤_}
+use Prim.Native.Nat.{ℕ, zero, suc, _%_, _<_, _≤_}
 use native.Mathlib.Nat.{eq-or-lt-of-le}
 use native.Mathlib.Omega.{arith}
-use lib.Dec.{eqb, ltb}
+use lib.Dec.{eqb, ltb, leb}
 use borrow.Author.Tests.{not-true, not-false, ltb-true, ltb-false, lt-ltb, le-ltb, eqb-true, eq-eqb}
 use Rattle.laws.proofs.OfTests.{both}
+use Rattle.bits.specs.Fields.{fieldOf}
 use Rattle.formats.specs.Fields.{_of_, «CLAMP», «OMOD», «OP2_INST», «OP3_INST»}
 use Rattle.opcodes.specs.declared.alu.Class.{Class}
 use Rattle.opcodes.specs.declared.alu.Unit.the-variants.{Vector}
@@ -18,10 +19,10 @@ use Rattle.opcodes.specs.declared.alu.Issue.the-variants.{Reduction}
 use Rattle.opcodes.specs.Table.{Row, lookup}
 use Rattle.opcodes.specs.Alu.{op2, op3, op2Class, op3Class, notTaken, unitNumber, isUnit, isIssue}
 use Rattle.instructions.specs.Instruction.{isOp3, classOf}
-use Rattle.groups.specs.Group.{PerInstruction, anyBelow, trans, unitFor, unitAt, unitsBefore, badUnitAt, isAlike, isFilled, badReduction}
-use Rattle.groups.specs.Code.{isUneven, anyUneven, anyReduction}
+use Rattle.groups.specs.Group.{PerInstruction, anyBelow, allBelow, trans, unitFor, unitAt, unitsBefore, badUnitAt, isAlike, isFilled, badReduction}
+use Rattle.groups.specs.Code.{Taken, isTaken, takenBefore, isUneven, anyUneven, anyReduction, isStraight}
 use Rattle.groups.proofs.OfBelow.{found, find, none-passes, pass-none, each-passes, pass-each}
-use Rattle.groups.proofs.OfUnits.{rises, rises-from}
+use Rattle.groups.proofs.OfUnits.{rises, rises-from, taken-held, some-before}
 
 -- ---- a reduction goes to a vector unit, its DST_CHAN
 
@@ -191,3 +192,48 @@ module _ (hi : PerInstruction) (m : ℕ) (kept : (j : ℕ) → j < m → badUnit
           sym (pass-none isUnfilled m (λ j l. ap (λ (x : Bool). x && not (isFilled (hi j) hi m)) (none-passes isReduction m e j l))) ∙ f
       by true e false f = clear f e
       by true e true f = broken f (ltb m trans) refl (anyBelow isUnevenAt m) refl
+
+  -- ---- the four vector units are taken, and the first four instructions are like the first
+
+  module _ {t : Taken} (e : takenBefore hi m ≡ t) (h : isStraight hi m t ≡ true) where
+    straight : (eqb (t % 16) 15 ≡ true) × (allBelow (λ k. isAlike (hi 0) (hi k)) trans ≡ true)
+    unfolding isStraight
+    straight = both (eqb (t % 16) 15) _ (both (leb trans m) _ h .1)
+
+    taken : (u : ℕ) → u < trans → isTaken t u ≡ true
+    unfolding isTaken
+    taken u l = eq-eqb (fieldOf t u 1) 1 (by u l (eqb-true (t % 16) 15 (straight .0)))
+      where
+        by : (u : ℕ) → u < trans → t % 16 ≡ 15 → fieldOf t u 1 ≡ 1
+        by zero k z = omega (arith, z)
+        by (suc zero) k z = omega (arith, z)
+        by (suc (suc zero)) k z = omega (arith, z)
+        by (suc (suc (suc zero))) k z = omega (arith, z)
+        by (suc (suc (suc (suc u)))) k z = absurd (omega arith)
+
+    like : (k : ℕ) → k < trans → isAlike (hi 0) (hi k) ≡ true
+    like k l = each-passes (λ k. isAlike (hi 0) (hi k)) trans (straight .1) k l
+
+    held : (u : ℕ) → u < trans → (k : ℕ) × (k < m) × (unitAt hi k ≡ u)
+    held u l =
+        let r = some-before hi (eqb u) m (sym (taken-held hi m u (omega arith)) ∙ ap (λ (x : Taken). isTaken x u) e ∙ taken u l) in
+        (r .0, r .1, sym (eqb-true u (unitAt hi (r .0)) (r .2)))
+
+    straight-filled : (j : ℕ) → j < m → isReduction j ≡ true → isFilled (hi j) hi m ≡ true
+    unfolding isFilled
+    straight-filled j l q =
+        let first = like j (omega (arith, in-vector-unit hi j q, rises-from hi m kept j l)) in
+        pass-each (λ u. anyBelow (λ k. eqb (unitAt hi k) u && isAlike (hi j) (hi k)) m) trans
+        (λ u b.
+        let a = held u b in
+        let few : a .0 < trans = omega (arith, rises-from hi m kept (a .0) (a .1), a .2, b) in
+        find (λ k. eqb (unitAt hi k) u && isAlike (hi j) (hi k)) m (a .0) (a .1)
+        (λ i. eq-eqb (unitAt hi (a .0)) u (a .2) i && alike (hi 0) (hi j) (hi (a .0)) first (like (a .0) few) i))
+
+    pub straight-clear : (anyReduction hi m && (ltb m trans || anyUneven hi m)) ≡ false
+    unfolding badReduction
+    straight-clear = same-reduction ∙ pass-none isUnfilled m (λ j l. by j l (isReduction j) refl)
+      where
+        by : (j : ℕ) → j < m → (b : Bool) → isReduction j ≡ b → (b && not (isFilled (hi j) hi m)) ≡ false
+        by j l false q = refl
+        by j l true q = ap not (straight-filled j l q)

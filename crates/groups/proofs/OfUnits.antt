@@ -146,6 +146,22 @@ module _ (hi : PerInstruction) where
   unfolding badUnitAt
   bad-at j = bad-same (unitsBefore hi j) (units-before hi j) (unitAt hi j) (at-most hi j) («BANK_SWIZZLE» of (hi j))
 
+  pub taken-held : (m v : ℕ) → v ≤ trans → isTaken (takenBefore hi m) v ≡ someUnit (eqb v) (unitsBefore hi m)
+  taken-held m v l = by-bits (unitsBefore hi m) (units-before hi m) v l .held
+
+  -- a unit before j is that of an instruction before j
+  pub some-before : (f : ℕ → Bool) (j : ℕ) → someUnit f (unitsBefore hi j) ≡ true → (k : ℕ) × (k < j) × (f (unitAt hi k) ≡ true)
+  unfolding unitsBefore someUnit unitAt
+  some-before f zero h = absurd (false≢true h)
+  some-before f (suc j) h = by (f (unitAt hi j)) refl h (λ q. some-before f j q)
+    where
+      by :
+          (b : Bool) → f (unitAt hi j) ≡ b → (b || someUnit f (unitsBefore hi j)) ≡ true
+          → (someUnit f (unitsBefore hi j) ≡ true → (k : ℕ) × (k < j) × (f (unitAt hi k) ≡ true))
+          → (k : ℕ) × (k < suc j) × (f (unitAt hi k) ≡ true)
+      by true e q rest = (j, omega arith, e)
+      by false e q rest = let r = rest q in (r .0, omega (arith, r .1), r .2)
+
   -- what is so of no unit before j is not so of that of an instruction before j
   not-before : (f : ℕ → Bool) (j k : ℕ) → k < j → someUnit f (unitsBefore hi j) ≡ false → f (unitAt hi k) ≡ false
   unfolding unitsBefore someUnit unitAt
@@ -170,3 +186,8 @@ module _ (hi : PerInstruction) where
         let l : j < m = omega arith in
         let k : j < suc j = omega arith in
         omega (arith, rises-from j l, rises j (suc j) k h)
+
+-- so a group has at most five instructions
+pub kept-few : (hi : PerInstruction) (m : ℕ) → ((j : ℕ) → j < m → badUnitAt hi j ≡ false) → m ≤ 5
+kept-few hi zero kept = omega arith
+kept-few hi (suc m) kept = let l : m < suc m = omega arith in omega (arith, rises-from hi (suc m) kept m l, at-most hi m)

@@ -1,10 +1,11 @@
 -- What the code keeps of a group while it reads it, instruction by instruction, so that each is decoded once; and what that says of the
 -- group's rules. It is for the code alone: that it comes to what specs/Group.antt asks is proved in proofs/OfUnits.antt,
 -- proofs/OfReduction.antt and proofs/OfGroup.antt.
-use Prim.Native.Nat.{ℕ, zero, suc, _+_, max}
+use Prim.Native.Nat.{ℕ, zero, suc, _+_, _%_, _^_, _≤_, max}
+use mathlib.Core.Path.{_≡_}
 use mathlib.Core.Bool.{Bool, true, false, cond, not, _&&_, _||_}
 use mathlib.Core.List.{List, [], _∷_}
-use lib.Dec.{eqb, ltb}
+use lib.Dec.{eqb, ltb, leb}
 use Rattle.units.specs.declared.Slots.{Slots}
 use Rattle.units.specs.Units.{slots}
 use Rattle.bits.specs.Fields.{fieldOf}
@@ -14,7 +15,7 @@ use Rattle.opcodes.specs.declared.alu.Unit.{Unit}
 use Rattle.opcodes.specs.declared.alu.Unit.the-variants.{Any, Trans}
 use Rattle.opcodes.specs.declared.alu.Issue.{Issue}
 use Rattle.opcodes.specs.declared.alu.Issue.the-variants.{Predicate, Kill, Mova, Reduction}
-use Rattle.opcodes.specs.Alu.{isUnit, isIssue}
+use Rattle.opcodes.specs.Alu.{isUnit, isIssue, issueNumber}
 use Rattle.grants.specs.declared.Limits.{Limits}
 use Rattle.grants.specs.Grants.{allGranted}
 use Rattle.instructions.specs.Instruction.{classOf, badNumber, badField, hasRelative, literals, named}
@@ -26,7 +27,7 @@ use Rattle.groups.specs.declared.Issues.{Issues}
 use Rattle.groups.specs.declared.Seen.{Seen}
 use Rattle.groups.specs.declared.GroupFault.{GroupFault}
 use Rattle.groups.specs.declared.GroupFault.the-variants.{Clean, Broken}
-use Rattle.groups.specs.Group.{PerInstruction, anyBelow, literalsBelow, trans, unitsBefore, unitAt, badUnitAt, issued, isAlike}
+use Rattle.groups.specs.Group.{PerInstruction, anyBelow, allBelow, literalsBelow, trans, unitsBefore, unitAt, badUnitAt, issued, isAlike}
 
 -- ---- 13: the units taken are the bits of a number
 
@@ -52,6 +53,13 @@ takenBefore hi j = takenBy (unitsBefore hi j)
 -- the unit that an instruction of this class gets with this DST_CHAN
 unfoldable pub unitFor : Taken → Unit → ℕ → ℕ
 unitFor t k chan = cond (isUnit k Trans || (isUnit k Any && isTaken t chan)) trans chan
+
+-- the same of a unit class by its number, and by 1 where the instruction goes to Trans
+unfoldable pub movesBy : Taken → ℕ → ℕ → ℕ
+movesBy t n chan = cond (eqb n 3 || (eqb n 1 && isTaken t chan)) 1 0
+
+unfoldable pub unitBy : Taken → ℕ → ℕ → ℕ
+unitBy t n chan = cond (eqb n 3 || (eqb n 1 && isTaken t chan)) trans chan
 
 -- and one with this high word
 unfoldable pub unitOf : Taken → ℕ → ℕ
@@ -145,6 +153,22 @@ issuesOf lo hi m =
       reduction = anyReduction hi m;
       uneven = anyUneven hi m;
     }
+
+-- the issue kinds of the first m instructions in one number, a digit for each kind: plain ones, setters, kills, MOVAs, reductions
+unfoldable pub tallyOf : PerInstruction → ℕ → ℕ
+tallyOf hi zero = 0
+tallyOf hi (suc m) = tallyOf hi m + 16 ^ issueNumber (classOf (hi m) .issue)
+
+-- the four vector units are taken by the group's first four instructions, which are like its first
+unfoldable pub isStraight : PerInstruction → ℕ → Taken → Bool
+isStraight hi m t = leb trans m && (eqb (t % 16) 15 && allBelow (λ k. isAlike (hi 0) (hi k)) trans)
+
+-- rule 14 on a group of m instructions that takes these units, by what is counted
+pub record Issued (lo hi : PerInstruction) (m : ℕ) (t : Taken) (mayKill : Bool) : Type 0 where
+  pub few : issued Predicate hi m + issued Kill hi m ≤ 1
+  pub kills : (ltb 0 (issued Kill hi m) && not mayKill) ≡ false
+  pub movas : (ltb 0 (issued Mova hi m) && anyBelow (λ j. hasRelative (lo j) (hi j)) m) ≡ false
+  pub reductions : (ltb 0 (issued Reduction hi m) && not (isStraight hi m t)) ≡ false
 
 unfoldable pub badIssues : Issues → ℕ → Bool → Bool
 badIssues i m mayKill =

@@ -14,7 +14,6 @@ use opcodes::alu::Issue;
 use opcodes::alu::is_issue;
 use units::Slots;
 ghost use mathlib.Core.Path.{_≡_};
-ghost use Rattle.opcodes.specs.declared.alu.Issue.the-variants.{Plain};
 ghost use Rattle.groups.specs.Code as code;
 
 // The first instruction of a group that breaks a rule, by how many slots it lies behind the group's first.
@@ -142,7 +141,7 @@ pub fn group_fault(seen: Seen, size: Slots, may_kill: bool) -> GroupFault
 }
 
 // Rule 14, from its figures.
-pub fn is_bad_issue(issues: Issues, size: Slots, may_kill: bool) -> bool
+fn is_bad_issue(issues: Issues, size: Slots, may_kill: bool) -> bool
     ensures { λ r. ⌜ r ≡ code.badIssues issues (size .0) «may_kill» ⌝ }
 {
     let wrong_kill = issues.kill & !may_kill;
@@ -152,33 +151,8 @@ pub fn is_bad_issue(issues: Issues, size: Slots, may_kill: bool) -> bool
     counts::is_several(issued) | (wrong_kill | (wrong_mova | wrong_reduction))
 }
 
-// Rule 14's figures with one instruction more. Most instructions are plain, and change two of them at most.
-pub fn next_issues(issues: Issues, issue: Issue, relative: bool, uneven: bool) -> Issues
-    ensures { λ r. ⌜ r ≡ code.nextIssues issues issue relative uneven ⌝ }
-{
-    if is_issue(issue, Issue::Plain) {
-        return plain_issues(issues, relative, uneven);
-    }
-    counted_issues(issues, issue, relative, uneven)
-}
-
-fn plain_issues(issues: Issues, relative: bool, uneven: bool) -> Issues
-    ensures { λ r. ⌜ r ≡ code.nextIssues issues Plain relative uneven ⌝ }
-{
-    let setters = issues.setters;
-    let issued = issues.issued;
-    Issues {
-        setters,
-        issued,
-        kill: issues.kill,
-        mova: issues.mova,
-        relative: issues.relative | relative,
-        reduction: issues.reduction,
-        uneven: issues.uneven | uneven,
-    }
-}
-
-fn counted_issues(issues: Issues, issue: Issue, relative: bool, uneven: bool) -> Issues
+// Rule 14's figures with one instruction more.
+fn next_issues(issues: Issues, issue: Issue, relative: bool, uneven: bool) -> Issues
     ensures { λ r. ⌜ r ≡ code.nextIssues issues issue relative uneven ⌝ }
 {
     let setters = issues.setters;

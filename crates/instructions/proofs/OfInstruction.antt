@@ -2,12 +2,13 @@
 use mathlib.Core.Path.{_≡_, refl, sym, ap, _∙_}
 use mathlib.Core.Bool.{Bool, true, false, cond, not, _&&_, _||_, and-true}
 use mathlib.Core.List.{[], _∷_}
-use Prim.Native.Nat.{ℕ, max}
+use Prim.Native.Nat.{ℕ, _/_, _<_, _≤_, max}
 use native.Mathlib.Omega.{arith}
 use lib.Dec.{eqb, ltb, leb}
-use borrow.Author.Tests.{lt-leb, le-leb, ltb-true, ltb-false}
-use Rattle.formats.specs.Fields.{_of_, «BANK_SWIZZLE», «DST_GPR», «DST_REL», «INDEX_MODE», «OP2_INST», «OP3_INST», «PRED_SEL», «SRC2_CHAN», «SRC2_REL», «SRC2_SEL»}
+use borrow.Author.Tests.{lt-leb, le-leb, lt-ltb, le-ltb, ltb-true, ltb-false, eqb-true, eqb-false}
+use Rattle.formats.specs.Fields.{_of_, «BANK_SWIZZLE», «DST_GPR», «DST_REL», «INDEX_MODE», «OP2_INST», «OP3_INST», «OP3_MARK», «PRED_SEL», «SRC2_CHAN», «SRC2_REL», «SRC2_SEL»}
 use Rattle.opcodes.specs.Alu.{op2Class, op3Class}
+use Rattle.opcodes.specs.Code.{classNumbered}
 use Rattle.grants.specs.declared.Limits.{Limits}
 use Rattle.grants.specs.Grants.{aluRegister, granted, allGranted, sourceNames}
 use Rattle.grants.proofs.OfGrants.{all-joined}
@@ -25,6 +26,24 @@ module _ (hi : ℕ) where
   pub class-op2 : isOp3 hi ≡ false → op2Class («OP2_INST» of hi) ≡ classOf hi
   unfolding classOf
   class-op2 h = rw h
+
+  -- by bits 17:7, of which 17:15 say whether it is OP3, and 17:13 are an OP3's number
+  pub class-numbered : classNumbered («OP2_INST» of hi) ≡ classOf hi
+  unfolding classNumbered classOf isOp3
+  class-numbered = by (eqb («OP3_MARK» of hi) 0) refl
+    where
+      by :
+          (b : Bool) → eqb («OP3_MARK» of hi) 0 ≡ b
+          → cond (ltb («OP2_INST» of hi) 256) (op2Class («OP2_INST» of hi)) (op3Class («OP2_INST» of hi / 64)) ≡ cond (not b) (op3Class («OP3_INST» of hi)) (op2Class («OP2_INST» of hi))
+      by true e =
+          let z = eqb-true («OP3_MARK» of hi) 0 e in
+          let l : «OP2_INST» of hi < 256 = omega (arith, z) in
+          rw (lt-ltb («OP2_INST» of hi) 256 l)
+      by false e =
+          let z = eqb-false («OP3_MARK» of hi) 0 e in
+          let l : 256 ≤ «OP2_INST» of hi = omega (arith, z) in
+          let q : «OP2_INST» of hi / 64 ≡ «OP3_INST» of hi = omega arith in
+          rw (le-ltb («OP2_INST» of hi) 256 l, q)
 
 -- ---- the third source
 

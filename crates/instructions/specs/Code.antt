@@ -10,3 +10,7 @@ noSource = record { sel = 248; rel = 0; chan = 0 }
 
 unfoldable pub thirdOf : ℕ → Source
 thirdOf hi = cond (isOp3 hi) (source2Of hi) noSource
+
+-- the word whose low bits have an OP3's source 2; of an OP2, those of its source 0
+abbrev pub thirdWord : ℕ → ℕ → ℕ
+thirdWord lo hi = cond (isOp3 hi) hi lo

@@ -11,7 +11,8 @@ ghost use Prim.Native.Nat.{max};
 ghost use mathlib.Core.Bool.{cond};
 ghost use Rattle.grants.specs.Grants.{allGranted};
 ghost use Rattle.instructions.specs.Instruction as instruction;
-ghost use Rattle.instructions.specs.Code.{thirdOf};
+ghost use Rattle.opcodes.specs.Code.{codeOf};
+ghost use Rattle.instructions.specs.Code.{thirdOf, thirdWord};
 
 // A source operand as its format has it.
 pub struct Source {
@@ -36,6 +37,13 @@ pub fn class_of(high: u32) -> Class
     opcodes::alu::op2_class(read(high, fields::OP2_INST))
 }
 
+// The same as one number, looked up without a branch.
+pub fn class_code(high: u32) -> u32
+    ensures { λ r. ⌜ r ≡ codeOf (instruction.classOf high) ⌝ }
+{
+    opcodes::alu::class_code(read(high, fields::OP2_INST))
+}
+
 fn source0(low: u32) -> Source
     ensures { λ r. ⌜ r ≡ instruction.source0Of low ⌝ }
 {
@@ -56,10 +64,18 @@ fn source1(low: u32) -> Source
     }
 }
 
-fn chosen(first: bool, a: u32, b: u32) -> u32
+// The one or the other.
+pub fn chosen(first: bool, a: u32, b: u32) -> u32
     ensures { λ r. ⌜ r ≡ cond first a b ⌝ }
 {
     if first { a } else { b }
+}
+
+// The word that has a third source where ALU_WORD1_OP3 has its own: an OP2's is its first source once more, of which nothing more is asked.
+pub fn third_word(low: u32, high: u32) -> u32
+    ensures { λ r. ⌜ r ≡ thirdWord low high ⌝ }
+{
+    chosen(is_op3(high), high, low)
 }
 
 // Source 2 of an OP3, and what stands for it in an OP2.

@@ -8,24 +8,12 @@ use Rattle.opcodes.specs.declared.cf.Control.{Control}
 use Rattle.opcodes.specs.Numbers.{cfAluControl, cfControl, isTaken, isExport}
 use Rattle.opcodes.specs.Alu.{op2Class, op3Class}
 use Rattle.opcodes.specs.Alu as class
-use Rattle.formats.specs.declared.cf.CfWord0.{CfWord0}
-use Rattle.formats.specs.declared.cf.CfWord1.{CfWord1}
-use Rattle.formats.specs.declared.cf_alu.CfAluWord0.{CfAluWord0}
-use Rattle.formats.specs.declared.cf_alu.CfAluWord1.{CfAluWord1}
-use Rattle.formats.specs.declared.export.CfAllocExportWord0.{CfAllocExportWord0}
-use Rattle.formats.specs.declared.export.CfAllocExportWord1Swiz.{CfAllocExportWord1Swiz}
-use Rattle.formats.specs.declared.alu.AluWord0.{AluWord0}
-use Rattle.formats.specs.declared.alu.AluWord1Op2.{AluWord1Op2}
-use Rattle.formats.specs.declared.alu.AluWord1Op3.{AluWord1Op3}
 use Rattle.microcode.specs.declared.Decoded.{Decoded}
-use Rattle.microcode.specs.declared.Decoded.the-variants.{NotTaken, Taken}
-use Rattle.microcode.specs.declared.Instruction.the-variants.{CfAlu, Cf, Export, Op2, Op3}
+use Rattle.microcode.specs.declared.Decoded.the-variants.{NotTaken}
+use Rattle.microcode.specs.declared.FoundPair.the-variants as found
 use Rattle.formats.specs.Fields.{_of_, «CF_ALU_MARK», «CF_ALU_INST», «CF_INST», «OP3_MARK», «OP2_INST», «OP3_INST»}
-use Rattle.formats.specs.Cf as cf
-use Rattle.formats.specs.CfAlu as cfAlu
-use Rattle.formats.specs.Export as export
-use Rattle.formats.specs.Alu as alu
 use Rattle.microcode.specs.Pair.{openerPairOf, plainPairOf, cfPairOf, op2PairOf, op3PairOf, aluPairOf}
+use Rattle.microcode.specs.Buffer.{decodedFrom}
 
 -- a test of what the code looked up, at the number that it read, is the definition's
 tested : {A : Type 0} (is : A → Bool) (d : ℕ → A) {n m : ℕ} {c : A} {t b : Bool} → n ≡ m → c ≡ d n → t ≡ is c → t ≡ b → is (d m) ≡ b
@@ -33,9 +21,9 @@ tested is d e p q r = ap (λ k. is (d k)) (sym e) ∙ ap is (sym p) ∙ sym q �
 
 -- ---- an ALU clause opener
 
-pub opener-taken : (lo hi n : ℕ) (c : Control) (t : Bool) (a : CfAluWord0) (b : CfAluWord1) → n ≡ «CF_ALU_INST» of hi → c ≡ cfAluControl n → t ≡ isTaken c → t ≡ true → a ≡ cfAlu.word0Of lo → b ≡ cfAlu.word1Of hi → Taken (CfAlu a b) ≡ openerPairOf lo hi
+pub opener-taken : (lo hi n : ℕ) (c : Control) (t : Bool) → n ≡ «CF_ALU_INST» of hi → c ≡ cfAluControl n → t ≡ isTaken c → t ≡ true → decodedFrom (found.CfAlu lo hi) ≡ openerPairOf lo hi
 unfolding openerPairOf
-opener-taken lo hi n c t a b e f g h p q = rw (tested isTaken cfAluControl e f g h) (λ i. Taken (CfAlu (p i) (q i)))
+opener-taken lo hi n c t e f g h = rw (tested isTaken cfAluControl e f g h)
 
 pub opener-refused : (lo hi n : ℕ) (c : Control) (t : Bool) → n ≡ «CF_ALU_INST» of hi → c ≡ cfAluControl n → t ≡ isTaken c → t ≡ false → NotTaken ≡ openerPairOf lo hi
 unfolding openerPairOf
@@ -51,16 +39,16 @@ plain : (lo hi x : ℕ) → x ≡ «CF_ALU_MARK» of hi → (x ≡ 1 → ⊥) �
 unfolding cfPairOf
 plain lo hi x e k = rw (ne-eqb («CF_ALU_MARK» of hi) 1 (λ h. k (e ∙ h)))
 
-pub export-taken : (lo hi x n : ℕ) (c : Control) (s : Bool) (a : CfAllocExportWord0) (b : CfAllocExportWord1Swiz) → x ≡ «CF_ALU_MARK» of hi → (x ≡ 1 → ⊥) → n ≡ «CF_INST» of hi → c ≡ cfControl n → s ≡ isExport c → s ≡ true → a ≡ export.word0Of lo → b ≡ export.word1Of hi → Taken (Export a b) ≡ cfPairOf lo hi
+pub export-taken : (lo hi x n : ℕ) (c : Control) (s : Bool) → x ≡ «CF_ALU_MARK» of hi → (x ≡ 1 → ⊥) → n ≡ «CF_INST» of hi → c ≡ cfControl n → s ≡ isExport c → s ≡ true → decodedFrom (found.Export lo hi) ≡ cfPairOf lo hi
 unfolding plainPairOf
-export-taken lo hi x n c s a b e k f g h i p q =
-    let here : Taken (Export a b) ≡ plainPairOf lo hi = rw (tested isExport cfControl f g h i) (λ j. Taken (Export (p j) (q j))) in
+export-taken lo hi x n c s e k f g h i =
+    let here : decodedFrom (found.Export lo hi) ≡ plainPairOf lo hi = rw (tested isExport cfControl f g h i) in
     here ∙ plain lo hi x e k
 
-pub cf-taken : (lo hi x n : ℕ) (c : Control) (s t : Bool) (a : CfWord0) (b : CfWord1) → x ≡ «CF_ALU_MARK» of hi → (x ≡ 1 → ⊥) → n ≡ «CF_INST» of hi → c ≡ cfControl n → s ≡ isExport c → s ≡ false → t ≡ isTaken c → t ≡ true → a ≡ cf.word0Of lo → b ≡ cf.word1Of hi → Taken (Cf a b) ≡ cfPairOf lo hi
+pub cf-taken : (lo hi x n : ℕ) (c : Control) (s t : Bool) → x ≡ «CF_ALU_MARK» of hi → (x ≡ 1 → ⊥) → n ≡ «CF_INST» of hi → c ≡ cfControl n → s ≡ isExport c → s ≡ false → t ≡ isTaken c → t ≡ true → decodedFrom (found.Cf lo hi) ≡ cfPairOf lo hi
 unfolding plainPairOf
-cf-taken lo hi x n c s t a b e k f g h i j l p q =
-    let here : Taken (Cf a b) ≡ plainPairOf lo hi = rw (tested isExport cfControl f g h i, tested isTaken cfControl f g j l) (λ m. Taken (Cf (p m) (q m))) in
+cf-taken lo hi x n c s t e k f g h i j l =
+    let here : decodedFrom (found.Cf lo hi) ≡ plainPairOf lo hi = rw (tested isExport cfControl f g h i, tested isTaken cfControl f g j l) in
     here ∙ plain lo hi x e k
 
 pub cf-refused : (lo hi x n : ℕ) (c : Control) (s t : Bool) → x ≡ «CF_ALU_MARK» of hi → (x ≡ 1 → ⊥) → n ≡ «CF_INST» of hi → c ≡ cfControl n → s ≡ isExport c → s ≡ false → t ≡ isTaken c → t ≡ false → NotTaken ≡ cfPairOf lo hi
@@ -79,10 +67,10 @@ three-sources : (lo hi x : ℕ) → x ≡ «OP3_MARK» of hi → (x ≡ 0 → �
 unfolding aluPairOf
 three-sources lo hi x e k = rw (ne-eqb («OP3_MARK» of hi) 0 (λ h. k (e ∙ h)))
 
-pub op2-taken : (lo hi x n : ℕ) (c : Class) (t : Bool) (a : AluWord0) (b : AluWord1Op2) → x ≡ «OP3_MARK» of hi → x ≡ 0 → n ≡ «OP2_INST» of hi → c ≡ op2Class n → t ≡ class.isTaken c → t ≡ true → a ≡ alu.word0Of lo → b ≡ alu.op2Of hi → Taken (Op2 a b) ≡ aluPairOf lo hi
+pub op2-taken : (lo hi x n : ℕ) (c : Class) (t : Bool) → x ≡ «OP3_MARK» of hi → x ≡ 0 → n ≡ «OP2_INST» of hi → c ≡ op2Class n → t ≡ class.isTaken c → t ≡ true → decodedFrom (found.Op2 lo hi) ≡ aluPairOf lo hi
 unfolding op2PairOf
-op2-taken lo hi x n c t a b e k f g h j p q =
-    let here : Taken (Op2 a b) ≡ op2PairOf lo hi = rw (tested class.isTaken op2Class f g h j) (λ i. Taken (Op2 (p i) (q i))) in
+op2-taken lo hi x n c t e k f g h j =
+    let here : decodedFrom (found.Op2 lo hi) ≡ op2PairOf lo hi = rw (tested class.isTaken op2Class f g h j) in
     here ∙ two-sources lo hi x e k
 
 pub op2-refused : (lo hi x n : ℕ) (c : Class) (t : Bool) → x ≡ «OP3_MARK» of hi → x ≡ 0 → n ≡ «OP2_INST» of hi → c ≡ op2Class n → t ≡ class.isTaken c → t ≡ false → NotTaken ≡ aluPairOf lo hi
@@ -91,10 +79,10 @@ op2-refused lo hi x n c t e k f g h j =
     let here : NotTaken ≡ op2PairOf lo hi = rw (tested class.isTaken op2Class f g h j) in
     here ∙ two-sources lo hi x e k
 
-pub op3-taken : (lo hi x n : ℕ) (c : Class) (t : Bool) (a : AluWord0) (b : AluWord1Op3) → x ≡ «OP3_MARK» of hi → (x ≡ 0 → ⊥) → n ≡ «OP3_INST» of hi → c ≡ op3Class n → t ≡ class.isTaken c → t ≡ true → a ≡ alu.word0Of lo → b ≡ alu.op3Of hi → Taken (Op3 a b) ≡ aluPairOf lo hi
+pub op3-taken : (lo hi x n : ℕ) (c : Class) (t : Bool) → x ≡ «OP3_MARK» of hi → (x ≡ 0 → ⊥) → n ≡ «OP3_INST» of hi → c ≡ op3Class n → t ≡ class.isTaken c → t ≡ true → decodedFrom (found.Op3 lo hi) ≡ aluPairOf lo hi
 unfolding op3PairOf
-op3-taken lo hi x n c t a b e k f g h j p q =
-    let here : Taken (Op3 a b) ≡ op3PairOf lo hi = rw (tested class.isTaken op3Class f g h j) (λ i. Taken (Op3 (p i) (q i))) in
+op3-taken lo hi x n c t e k f g h j =
+    let here : decodedFrom (found.Op3 lo hi) ≡ op3PairOf lo hi = rw (tested class.isTaken op3Class f g h j) in
     here ∙ three-sources lo hi x e k
 
 pub op3-refused : (lo hi x n : ℕ) (c : Class) (t : Bool) → x ≡ «OP3_MARK» of hi → (x ≡ 0 → ⊥) → n ≡ «OP3_INST» of hi → c ≡ op3Class n → t ≡ class.isTaken c → t ≡ false → NotTaken ≡ aluPairOf lo hi

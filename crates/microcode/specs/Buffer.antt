@@ -12,7 +12,14 @@ use Rattle.checks.specs.declared.Place.the-variants.{Whole}
 use Rattle.checks.specs.declared.Verdict.{Verdict}
 use Rattle.checks.specs.declared.Verdict.the-variants.{Accepted, Refused}
 use Rattle.checks.specs.Verdict.{verdictNumber, verdictPlace, verdictSlot}
+use Rattle.formats.specs.Cf as cf
+use Rattle.formats.specs.CfAlu as cfAlu
+use Rattle.formats.specs.Export as export
+use Rattle.formats.specs.Alu as alu
 use Rattle.microcode.specs.declared.Instruction.{Instruction}
+use Rattle.microcode.specs.declared.Instruction.the-variants.{CfAlu, Cf, Export, Op2, Op3}
+use Rattle.microcode.specs.declared.FoundPair.{FoundPair}
+use Rattle.microcode.specs.declared.FoundPair.the-variants as found
 use Rattle.microcode.specs.declared.Decoded.{Decoded}
 use Rattle.microcode.specs.declared.Decoded.the-variants.{Outside, NotTaken, Taken}
 use Rattle.microcode.specs.declared.Encoded.{Encoded}
@@ -29,6 +36,16 @@ room l start = leb (start + 2) (length l)
 -- the pair at start, where it is wholly in the words
 unfoldable pub decodeOf : Stream → List ℕ → Words → Decoded
 decodeOf stream l start = cond (room l (start .0)) (pairOf stream (getD l (start .0) 0) (getD l (start .0 + 1) 0)) Outside
+
+-- the record of a form that was found with these words
+abbrev pub decodedFrom : FoundPair → Decoded
+decodedFrom found.Outside = Outside
+decodedFrom found.NotTaken = NotTaken
+decodedFrom (found.CfAlu lo hi) = Taken (CfAlu (cfAlu.word0Of lo) (cfAlu.word1Of hi))
+decodedFrom (found.Cf lo hi) = Taken (Cf (cf.word0Of lo) (cf.word1Of hi))
+decodedFrom (found.Export lo hi) = Taken (Export (export.word0Of lo) (export.word1Of hi))
+decodedFrom (found.Op2 lo hi) = Taken (Op2 (alu.word0Of lo) (alu.op2Of hi))
+decodedFrom (found.Op3 lo hi) = Taken (Op3 (alu.word0Of lo) (alu.op3Of hi))
 
 -- what the encoder answers: the record is asked about before the room
 abbrev pub answerFor : Bool → Bool → Encoded

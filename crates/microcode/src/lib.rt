@@ -20,7 +20,7 @@ use units::Words;
 use words::RecordWords;
 ghost use mathlib.Core.Path.{_≡_};
 ghost use Rattle.microcode.specs.Pair.{streamOf};
-ghost use Rattle.microcode.specs.Buffer.{decodeOf, encodeAnswer, encodeWords, writeAnswer, writeWords, writeNumber, Rewritten, Answers, notTaken, refused, decodedVerdict, decodeNumber, encodedVerdict, encodeNumber};
+ghost use Rattle.microcode.specs.Buffer.{decodeOf, decodedFrom, encodeAnswer, encodeWords, writeAnswer, writeWords, writeNumber, Rewritten, Answers, notTaken, refused, decodedVerdict, decodeNumber, encodedVerdict, encodeNumber};
 ghost use Rattle.microcode.specs.Code.{putAnswer, putWords};
 
 // The five forms of a pair.
@@ -47,6 +47,18 @@ pub enum Decoded {
     Taken(Instruction),
 }
 
+// What stands at a start: a pair by its form, with its two words as they are. Who needs the fields of one form only reads them from these, and
+// a record that could be of any form is never made.
+pub enum FoundPair {
+    Outside,
+    NotTaken,
+    CfAlu(u32, u32),
+    Cf(u32, u32),
+    Export(u32, u32),
+    Op2(u32, u32),
+    Op3(u32, u32),
+}
+
 // What the encoder answers.
 pub enum Encoded {
     // A field exceeds its width, or the record isn't of a taken form.
@@ -63,12 +75,19 @@ pub fn decode(words: &[u32], start: Words, stream: Stream) -> Decoded
     ensures { λ r. ⌜ ((i : Instruction) → r ≡ Decoded.Taken i → Rewritten i (now (words .entry)) start) ⌝ }
     ensures { λ r. ⌜ Answers (decodedVerdict stream r) (decodeNumber stream (now (words .entry)) start) ⌝ }
 {
+    pair::decoded(find(words, start, stream))
+}
+
+// The form of the pair at `start`, which may be any number, and its words.
+pub fn find(words: &[u32], start: Words, stream: Stream) -> FoundPair
+    ensures { λ r. ⌜ decodedFrom r ≡ decodeOf stream (now (words .entry)) start ⌝ }
+{
     let at = start.0;
     if words.len() < 2 {
-        return Decoded::Outside;
+        return FoundPair::Outside;
     }
     if words.len() - 2 < at {
-        return Decoded::Outside;
+        return FoundPair::Outside;
     }
     let low = words[at];
     let high = words[at + 1];

@@ -65,6 +65,10 @@ passed (suc m) k r = past (passed m k (r .0)) (r .1)
     past : m ≤ k → (k ≡ m → ⊥) → suc m ≤ k
     past h n = omega arith
 
+-- so it is not below m
+pub none-left : (m k : ℕ) → Passed m k → k < m → ⊥
+none-left m k r h = let l = passed m k r in omega (arith, l)
+
 -- below m + 1 it is m
 pub last-one : (m k : ℕ) → Passed m k → k < suc m → k ≡ m
 last-one m k r h = between (passed m k r)

@@ -1,16 +1,16 @@
 -- A class as a row of the code's table has it, and eight rows as one word. Only the code's contracts and proofs use this: which class a number
 -- has is Alu's to say.
-use Prim.Native.Nat.{ℕ, zero, suc, _+_, _*_, _/_, _%_, _^_}
+use Prim.Native.Nat.{ℕ, zero, suc, _+_, _-_, _*_, _/_, _%_, _^_}
 use mathlib.Core.Bool.{cond}
 use mathlib.Core.List.{List, [], _∷_}
 use lib.ListN.{getD}
-use lib.Dec.{eqb}
+use lib.Dec.{eqb, ltb}
 use Rattle.opcodes.specs.declared.alu.Class.{Class}
 use Rattle.opcodes.specs.declared.alu.Unit.{Unit}
 use Rattle.opcodes.specs.declared.alu.Unit.the-variants.{NotTaken, Any, Vector, Trans}
 use Rattle.opcodes.specs.declared.alu.Issue.{Issue}
 use Rattle.opcodes.specs.declared.alu.Issue.the-variants.{Plain, Predicate, Kill, Mova, Reduction}
-use Rattle.opcodes.specs.Alu.{unitNumber, issueNumber}
+use Rattle.opcodes.specs.Alu.{op2Class, op3Class, unitNumber, issueNumber}
 
 -- bits 1:0 are the unit, 4:2 the issue kind, 6:5 how many sources are read
 abbrev pub codeOf : Class → ℕ
@@ -34,6 +34,22 @@ joinedOf rows = fourOf (at 0) (at 1) (at 2) (at 3) + fourOf (at 4) (at 5) (at 6)
 -- the rows of numbers 8 k to 8 k + 7
 unfoldable pub eight : (ℕ → Class) → ℕ → ℕ
 eight f k = joinedOf (rowsFrom f (k * 8) 8)
+
+-- the eights of OP2, then those of OP3
+unfoldable pub eightAt : ℕ → ℕ
+eightAt k = cond (ltb k 32) (eight op2Class k) (eight op3Class (k - 32))
+
+-- the class at a place of both tables, one behind the other
+unfoldable pub classPlaced : ℕ → Class
+classPlaced i = cond (ltb i 256) (op2Class i) (op3Class (i - 256))
+
+-- where the row of the number in bits 17:7 of a high word stands
+unfoldable pub placeOf : ℕ → ℕ
+placeOf n = cond (ltb n 256) n (256 + n / 64)
+
+-- the class of an instruction by bits 17:7 of its high word: OP2 has its number there, OP3 in bits 17:13
+unfoldable pub classNumbered : ℕ → Class
+classNumbered n = cond (ltb n 256) (op2Class n) (op3Class (n / 64))
 
 -- ---- and back
 

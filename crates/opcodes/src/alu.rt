@@ -4,7 +4,7 @@ use crate::table;
 ghost use mathlib.Core.Path.{_≡_};
 ghost use Prim.Native.Nat.{_<_};
 ghost use Rattle.opcodes.specs.Alu.{op2Class, op3Class, unitNumber, issueNumber, isUnit, isIssue, isTaken};
-ghost use Rattle.opcodes.specs.Code.{classIn, unitNumbered, issueNumbered};
+ghost use Rattle.opcodes.specs.Code.{codeOf, classNumbered, placeOf, classPlaced, classIn, unitNumbered, issueNumbered};
 
 // The unit class: any unit, one of the four vector units, or Trans.
 pub enum Unit {
@@ -42,7 +42,7 @@ pub fn op2_class(number: u32) -> Class
     if 255 < number {
         return NOT_TAKEN;
     }
-    class_in(table::op2_eight(number / 8), number % 8)
+    class_in(table::eight_at(number / 8), number % 8)
 }
 
 // The class of an OP3 number.
@@ -52,7 +52,37 @@ pub fn op3_class(number: u32) -> Class
     if 31 < number {
         return NOT_TAKEN;
     }
-    class_in(table::op3_eight(number / 8), number % 8)
+    class_in(table::eight_at(table::OP3_EIGHTS + number / 8), number % 8)
+}
+
+// The class of the instruction that has this number in bits 17:7 of its high word, as one number (specs/Code.antt, codeOf): OP2 where it is below
+// 256; an OP3 number is its bits from 6 on. No branch parts the two.
+pub fn class_code(number: u32) -> u32
+    ensures { λ r. ⌜ r ≡ codeOf (classNumbered number) ⌝ }
+{
+    if 2047 < number {
+        return 0;
+    }
+    code_at(place_of(number))
+}
+
+// Where its row stands, the two tables one behind the other.
+fn place_of(number: u32) -> u32
+    ensures { λ r. ⌜ r ≡ placeOf number ⌝ }
+{
+    if number < 256 {
+        number
+    } else {
+        256 + number / 64
+    }
+}
+
+fn code_at(place: u32) -> u32
+    requires { ⌜ place < 288 ⌝ }
+    ensures { λ r. ⌜ r ≡ codeOf (classPlaced place) ⌝ }
+{
+    let eight = table::eight_at(place / 8);
+    ((eight >> (place % 8 * 8)) % 256) as u32
 }
 
 // The class in row `row` of an eight, of 0 to 7.

@@ -8,8 +8,7 @@
 // where an array of 256 rows would be written to the stack anew for each number (docs/MACHINE-CODE.md).
 ghost use mathlib.Core.Path.{_≡_};
 ghost use Prim.Native.Nat.{_<_};
-ghost use Rattle.opcodes.specs.Alu.{op2Class, op3Class};
-ghost use Rattle.opcodes.specs.Code.{eight, joinedOf, fourOf};
+ghost use Rattle.opcodes.specs.Code.{eightAt, joinedOf, fourOf};
 
 // The unit classes.
 pub(crate) const NOT_TAKEN: u8 = 0;
@@ -466,6 +465,9 @@ const OP3_24_TO_31: [u8; 8] = [
 
 // ---- looked up by eights
 
+// OP2 has so many.
+pub(crate) const OP3_EIGHTS: u32 = 32;
+
 // Eight rows as one word, the first in its lowest byte.
 fn joined(rows: [u8; 8]) -> u64
     ensures { λ r. ⌜ r ≡ joinedOf rows ⌝ }
@@ -481,10 +483,11 @@ fn four(a: u8, b: u8, c: u8, d: u8) -> u32
     a as u32 + b as u32 * 0x100 + c as u32 * 0x1_0000 + d as u32 * 0x100_0000
 }
 
-// The rows of OP2 numbers 8 k to 8 k + 7.
-pub(crate) fn op2_eight(k: u32) -> u64
-    requires { ⌜ k < 32 ⌝ }
-    ensures { λ r. ⌜ r ≡ eight op2Class k ⌝ }
+// Eight rows: the 32 eights of OP2 in their order, then the four of OP3. One match for both, since a choice between two tables would be a branch
+// that goes by what a pack mixes.
+pub(crate) fn eight_at(k: u32) -> u64
+    requires { ⌜ k < 36 ⌝ }
+    ensures { λ r. ⌜ r ≡ eightAt k ⌝ }
 {
     match k {
         0 => joined(OP2_0_TO_7),
@@ -518,19 +521,11 @@ pub(crate) fn op2_eight(k: u32) -> u64
         28 => joined(OP2_224_TO_231),
         29 => joined(OP2_232_TO_239),
         30 => joined(OP2_240_TO_247),
-        _ => joined(OP2_248_TO_255),
-    }
-}
-
-// The rows of OP3 numbers 8 k to 8 k + 7.
-pub(crate) fn op3_eight(k: u32) -> u64
-    requires { ⌜ k < 4 ⌝ }
-    ensures { λ r. ⌜ r ≡ eight op3Class k ⌝ }
-{
-    match k {
-        0 => joined(OP3_0_TO_7),
-        1 => joined(OP3_8_TO_15),
-        2 => joined(OP3_16_TO_23),
-        _ => joined(OP3_24_TO_31),
+        31 => joined(OP2_248_TO_255),
+        32 => joined(OP3_0_TO_7),
+        33 => joined(OP3_8_TO_15),
+        34 => joined(OP3_16_TO_23),
+        35 => joined(OP3_24_TO_31),
+        _ => 0,
     }
 }

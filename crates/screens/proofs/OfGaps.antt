@@ -5,17 +5,18 @@ use mathlib.Core.Bool.{Bool, true, false, cond, _&&_, _||_, false≢true}
 use mathlib.Core.List.{List, [], _∷_, _++_}
 use Prim.Native.Nat.{ℕ, zero, suc, _+_, _-_, _*_, _/_, _%_, _^_, _≤_, _<_, min, max}
 use native.Mathlib.Omega.{arith}
-use lib.Dec.{eqb, ltb, leb}
+use lib.Dec.{eqb, ltb, leb, eqb·suc-zero}
 use lib.ListN.{getD, drop}
-use borrow.Author.Tests.{ltb-true, ltb-false, le-leb}
-use Rattle.formats.specs.Fields.{_of_, «SRC0_SEL», «SRC0_REL», «SRC0_CHAN», «SRC1_SEL», «SRC1_REL», «SRC1_CHAN», «SRC2_SEL», «SRC2_REL», «SRC2_CHAN», «INDEX_MODE», «PRED_SEL», «BANK_SWIZZLE», «DST_GPR», «DST_REL»}
+use borrow.Author.Tests.{ltb-true, ltb-false, le-leb, eqb-true, eq-eqb}
+use Rattle.formats.specs.Fields.{_of_, «SRC0_SEL», «SRC0_REL», «SRC1_SEL», «SRC1_REL», «SRC2_SEL», «SRC2_REL», «INDEX_MODE», «PRED_SEL», «BANK_SWIZZLE», «DST_GPR», «DST_REL»}
 use Rattle.laws.proofs.OfTests.{neither}
 use Rattle.grants.specs.declared.Limits.{Limits}
 use Rattle.grants.specs.Grants.{Name, aluRegister, set0, set1, constant, locked, granted, allGranted, sourceNames}
 use Rattle.grants.proofs.OfGrants.{locked-most, all-joined}
 use Rattle.instructions.specs.declared.Source.{Source}
 use Rattle.instructions.specs.Instruction.{isOp3, isWritten, isRelative, badSource, badField, namesOf, destinationNames, named, literals, sourceLiterals, source0Of, source1Of, source2Of}
-use Rattle.screens.specs.Code.{withRel, times, byRow, startsOf, widthsOf, isAmong, inGap, namesDestination, asksLiteral, brokenBy}
+use Rattle.instructions.specs.Code.{thirdWord}
+use Rattle.screens.specs.Code.{withRel, times, byRow, startsOf, widthsOf, isAmong, inGap, writesGap, asksLiteral, moreLiterals, brokenBy}
 
 -- ---- what the code tests
 
@@ -23,20 +24,14 @@ use Rattle.screens.specs.Code.{withRel, times, byRow, startsOf, widthsOf
 pub wrapped : (x f r : ℕ) → x < 2 ^ 32 → f < 2 ^ 32 → r < 2 ^ 32 → (r + f) % 2 ^ 32 ≡ x → r ≡ (x + (2 ^ 32 - f)) % 2 ^ 32
 wrapped x f r h k l e = omega (arith, h, k, l, e)
 
--- no source is a literal, so none asks for a quadword
-pub no-literal : (n lo hi : ℕ) → asksLiteral lo hi ≡ false → n ≡ max n (literals lo hi)
-unfolding asksLiteral literals sourceLiterals
-no-literal n lo hi =
-    by (eqb («SRC0_SEL» of lo) 253) (eqb («SRC1_SEL» of lo) 253) (isOp3 hi) (eqb («SRC2_SEL» of hi) 253)
-  where
-    by :
-        (a b d e : Bool) → (a || (b || (d && e))) ≡ false
-        → n ≡ max n (max (max (cond a («SRC0_CHAN» of lo / 2 + 1) 0) (cond b («SRC1_CHAN» of lo / 2 + 1) 0)) (cond d (cond e («SRC2_CHAN» of hi / 2 + 1) 0) 0))
-    by false false false e h = omega arith
-    by false false true false h = omega arith
-    by false false true true h = absurd (false≢true (sym h))
-    by false true d e h = absurd (false≢true (sym h))
-    by true b d e h = absurd (false≢true (sym h))
+module _ (n lo hi : ℕ) where
+  pub literal-asked : asksLiteral lo hi ≡ true → max n (literals lo hi) ≡ moreLiterals n lo hi
+  unfolding moreLiterals
+  literal-asked h = rw h
+
+  pub none-asked : asksLiteral lo hi ≡ false → n ≡ moreLiterals n lo hi
+  unfolding moreLiterals
+  none-asked h = rw h
 
 -- ---- one instruction, test by test
 
@@ -49,10 +44,7 @@ module _ (starts widths : List ℕ) (lo hi : ℕ) where
   sourceTest = inGap starts widths (withRel «SRC0_SEL» «SRC0_REL» lo) || inGap starts widths (withRel «SRC1_SEL» «SRC1_REL» lo)
 
   abbrev thirdTest : Bool
-  thirdTest = isOp3 hi && inGap starts widths (withRel «SRC2_SEL» «SRC2_REL» hi)
-
-  abbrev destinationTest : Bool
-  destinationTest = inGap starts widths («DST_GPR» of hi)
+  thirdTest = inGap starts widths (withRel «SRC2_SEL» «SRC2_REL» (thirdWord lo hi))
 
   pub by-field : fieldTest ≡ true → true ≡ brokenBy starts widths lo hi
   unfolding brokenBy
@@ -68,14 +60,9 @@ module _ (starts widths : List ℕ) (lo hi : ℕ) where
       unfolding brokenBy
       by-third d = rw (a, b, d)
 
-      module _ (d : thirdTest ≡ false) where
-        pub by-destination : {n : Bool} → destinationTest ≡ true → n ≡ namesDestination hi → n ≡ brokenBy starts widths lo hi
-        unfolding brokenBy
-        by-destination e f = f ∙ rw (a, b, d, e)
-
-        pub by-none : destinationTest ≡ false → false ≡ brokenBy starts widths lo hi
-        unfolding brokenBy
-        by-none e = rw (a, b, d, e)
+      pub by-destination : {n : Bool} → thirdTest ≡ false → n ≡ writesGap starts widths hi → n ≡ brokenBy starts widths lo hi
+      unfolding brokenBy
+      by-destination d f = f ∙ rw (a, b, d)
 
 -- ---- rows
 
@@ -110,6 +97,17 @@ unfolding isAmong
 past-gap x s w h l e =
     let z = ltb-false ((x + (2 ^ 32 - s)) % 2 ^ 32) w e in let y : (x + (2 ^ 32 - s)) % 2 ^ 32 ≡ x - s = omega (arith, h, l) in omega (arith, z, y, l)
 
+-- a register outside the gap of registers is granted
+register-outside : (l : Limits) (x : ℕ) → isAmong x (l .gprs) (128 - l .temps - l .gprs) ≡ false → x < 128 → granted l (aluRegister x) ≡ true
+register-outside l x h k = by (ltb x (l .gprs)) refl
+  where
+    by : (t : Bool) → ltb x (l .gprs) ≡ t → (t || leb (128 - l .temps) x) ≡ true
+    by true e = refl
+    by false e =
+        let s = ltb-false x (l .gprs) e in
+        let g = past-gap x (l .gprs) (128 - l .temps - l .gprs) (omega arith) s h in
+        le-leb (128 - l .temps) x (omega (arith, s, g))
+
 -- one of a row's six numbers
 abbrev Pick : Type 0
 Pick = ℕ → ℕ → ℕ → ℕ → ℕ → ℕ → ℕ
@@ -123,15 +121,9 @@ module _ (l : Limits) (x : ℕ) (h : inGap (startsOf l) (widthsOf l) x ≡ false
   row-gap pick row = sym (λ i. isAmong x (row (l .gprs) (128 + locked (l .mode0)) (160 + locked (l .mode1)) 192 (256 + min (l .consts) 256) 704 i) (row (128 - l .temps - l .gprs) (32 - locked (l .mode0)) (32 - locked (l .mode1)) 56 (256 - min (l .consts) 256) 64 i)) ∙ h
 
   register-clear : x < 128 → granted l (aluRegister x) ≡ true
-  register-clear k = by (ltb x (l .gprs)) refl
-    where
-      by : (t : Bool) → ltb x (l .gprs) ≡ t → (t || leb (128 - l .temps) x) ≡ true
-      by true e = refl
-      by false e =
-          let s = ltb-false x (l .gprs) e in
-          let row : x / 32 % 32 < 4 = omega arith in
-          let g = past-gap x (l .gprs) (128 - l .temps - l .gprs) (omega arith) s (row-gap (λ a b d e f g. a) (λ a b d e f g. row-registers a b d e f g (x / 32 % 32) row)) in
-          le-leb (128 - l .temps) x (omega (arith, s, g))
+  register-clear k =
+      let row : x / 32 % 32 < 4 = omega arith in
+      register-outside l x (row-gap (λ a b d e f g. a) (λ a b d e f g. row-registers a b d e f g (x / 32 % 32) row)) k
 
   set0-clear : 128 ≤ x → x < 160 → ltb (x - 128) (locked (l .mode0)) ≡ true
   set0-clear m k = by (ltb (x - 128) (locked (l .mode0))) refl
@@ -267,6 +259,22 @@ module _ (n : ℕ) where
   source2-bits : withRel «SRC2_SEL» «SRC2_REL» n ≡ «SRC2_SEL» of n + 512 * («SRC2_REL» of n)
   source2-bits = omega arith
 
+-- a source that rule 12 lets pass, and that is not 253 without its relative bit, is no literal
+no-literal : (s : Source) → s .rel < 2 → badSource s ≡ false → eqb (s .sel + 512 * s .rel) 253 ≡ false → sourceLiterals s ≡ 0
+unfolding sourceLiterals badSource isRelative
+no-literal s m h e = by (eqb (s .sel) 253) refl (s .rel) refl
+  where
+    by : (b : Bool) → eqb (s .sel) 253 ≡ b → (r : ℕ) → s .rel ≡ r → cond b (s .chan / 2 + 1) 0 ≡ 0
+    by false p r q = refl
+    by true p zero q =
+        let z = eqb-true (s .sel) 253 p in
+        let y : s .sel + 512 * s .rel ≡ 253 = omega (arith, z, q) in
+        absurd (false≢true (sym e ∙ eq-eqb (s .sel + 512 * s .rel) 253 y))
+    by true p (suc zero) q =
+        let z = eqb-true (s .sel) 253 p in
+        absurd (false≢true (sym h ∙ rw (z, q)))
+    by true p (suc (suc r)) q = absurd (omega (arith, q, m))
+
 tests-false :
     (a b d e : Bool) → cond a true (cond b true (cond d true e)) ≡ false
     → (a ≡ false) × ((b ≡ false) × ((d ≡ false) × (e ≡ false)))
@@ -278,10 +286,10 @@ tests-false true b d e h = absurd (false≢true (sym h))
 module _ (l : Limits) (lo hi : ℕ) (h : brokenBy (startsOf l) (widthsOf l) lo hi ≡ false) where
   asked :
       (fieldTest (startsOf l) (widthsOf l) lo hi ≡ false)
-      × ((sourceTest (startsOf l) (widthsOf l) lo hi ≡ false) × ((thirdTest (startsOf l) (widthsOf l) lo hi ≡ false) × ((destinationTest (startsOf l) (widthsOf l) lo hi && namesDestination hi) ≡ false)))
+      × ((sourceTest (startsOf l) (widthsOf l) lo hi ≡ false) × ((thirdTest (startsOf l) (widthsOf l) lo hi ≡ false) × (writesGap (startsOf l) (widthsOf l) hi ≡ false)))
   unfolding brokenBy
   asked =
-      tests-false (fieldTest (startsOf l) (widthsOf l) lo hi) (sourceTest (startsOf l) (widthsOf l) lo hi) (thirdTest (startsOf l) (widthsOf l) lo hi) (destinationTest (startsOf l) (widthsOf l) lo hi && namesDestination hi)
+      tests-false (fieldTest (startsOf l) (widthsOf l) lo hi) (sourceTest (startsOf l) (widthsOf l) lo hi) (thirdTest (startsOf l) (widthsOf l) lo hi) (writesGap (startsOf l) (widthsOf l) hi)
       h
 
   first-two :
@@ -303,7 +311,7 @@ module _ (l : Limits) (lo hi : ℕ) (h : brokenBy (startsOf l) (widthsOf l) lo h
   third = by (isOp3 hi) (asked .1 .1 .0)
     where
       by :
-          (b : Bool) → (b && inGap (startsOf l) (widthsOf l) (withRel «SRC2_SEL» «SRC2_REL» hi)) ≡ false
+          (b : Bool) → inGap (startsOf l) (widthsOf l) (withRel «SRC2_SEL» «SRC2_REL» (cond b hi lo)) ≡ false
           → ((b && badSource (source2Of hi)) ≡ false) × (allGranted l (cond b (namesOf (source2Of hi)) []) ≡ true)
       by false e = (refl, refl)
       by true e =
@@ -311,15 +319,19 @@ module _ (l : Limits) (lo hi : ℕ) (h : brokenBy (startsOf l) (widthsOf l) lo h
           (omega arith)
 
   destination : allGranted l (destinationNames hi) ≡ true
-  unfolding destinationNames namesDestination
-  destination = by (isWritten hi && eqb («DST_REL» of hi) 0) (inGap (startsOf l) (widthsOf l) («DST_GPR» of hi)) refl (asked .1 .1 .1)
+  unfolding destinationNames writesGap startsOf widthsOf
+  destination = by (isWritten hi) («DST_REL» of hi) refl (asked .1 .1 .1)
     where
       by :
-          (b e : Bool) → inGap (startsOf l) (widthsOf l) («DST_GPR» of hi) ≡ e → (e && b) ≡ false
-          → allGranted l (cond b (aluRegister («DST_GPR» of hi) ∷ []) []) ≡ true
-      by false e p q = refl
-      by true false p q = ap (λ (t : Bool). t && true) (register-clear l («DST_GPR» of hi) p (omega arith))
-      by true true p q = absurd (false≢true (sym q))
+          (b : Bool) (r : ℕ) → «DST_REL» of hi ≡ r
+          → isAmong (cond b (withRel «DST_GPR» «DST_REL» hi) 255) (l .gprs) (128 - l .temps - l .gprs) ≡ false
+          → allGranted l (cond (b && eqb r 0) (aluRegister («DST_GPR» of hi) ∷ []) []) ≡ true
+      by false r e h = refl
+      by true zero e h =
+          let z : «DST_GPR» of hi ≡ withRel «DST_GPR» «DST_REL» hi = omega (arith, e) in
+          ap (λ (t : Bool). t && true)
+          (register-outside l («DST_GPR» of hi) (ap (λ (n : ℕ). isAmong n (l .gprs) (128 - l .temps - l .gprs)) z ∙ h) (omega arith))
+      by true (suc r) e h = rw (eqb·suc-zero r)
 
   -- an instruction that the gaps let through breaks neither rule 12
   pub unbroken-field : badField lo hi ≡ false
@@ -340,3 +352,27 @@ module _ (l : Limits) (lo hi : ℕ) (h : brokenBy (startsOf l) (widthsOf l) lo h
       both-granted :
           (a b : List Name) → allGranted l a ≡ true → allGranted l b ≡ true → allGranted l (a ++ b) ≡ true
       both-granted a b p q = all-joined l a b ∙ (λ i. p i && q i)
+
+  -- and its literals are those that were looked for
+  pub unbroken-literals : (n : ℕ) → moreLiterals n lo hi ≡ max n (literals lo hi)
+  unfolding moreLiterals asksLiteral literals
+  unbroken-literals n =
+      by (eqb (withRel «SRC0_SEL» «SRC0_REL» lo) 253) refl (eqb (withRel «SRC1_SEL» «SRC1_REL» lo) 253) refl
+      (eqb (withRel «SRC2_SEL» «SRC2_REL» (thirdWord lo hi)) 253) refl
+    where
+      none-third : (b : Bool) → (b && badSource (source2Of hi)) ≡ false → eqb (withRel «SRC2_SEL» «SRC2_REL» (cond b hi lo)) 253 ≡ false → cond b (sourceLiterals (source2Of hi)) 0 ≡ 0
+      none-third false p q = refl
+      none-third true p q = no-literal (source2Of hi) (omega arith) p (ap (λ (x : ℕ). eqb x 253) (sym (source2-bits hi)) ∙ q)
+
+      by :
+          (a : Bool) → eqb (withRel «SRC0_SEL» «SRC0_REL» lo) 253 ≡ a → (b : Bool) → eqb (withRel «SRC1_SEL» «SRC1_REL» lo) 253 ≡ b → (d : Bool)
+          → eqb (withRel «SRC2_SEL» «SRC2_REL» (thirdWord lo hi)) 253 ≡ d
+          → cond (a || (b || d)) (max n (literals lo hi)) n ≡ max n (max (max (sourceLiterals (source0Of lo)) (sourceLiterals (source1Of lo))) (cond (isOp3 hi) (sourceLiterals (source2Of hi)) 0))
+      by true p b q d r = refl
+      by false p true q d r = refl
+      by false p false q true r = refl
+      by false p false q false r =
+          let x = no-literal (source0Of lo) (omega arith) (first .0) (ap (λ (x : ℕ). eqb x 253) (sym (source0-bits lo)) ∙ p) in
+          let y = no-literal (source1Of lo) (omega arith) (second .0) (ap (λ (x : ℕ). eqb x 253) (sym (source1-bits lo)) ∙ q) in
+          let z = none-third (isOp3 hi) (third .0) r in
+          rw (x, y, z) (omega arith)

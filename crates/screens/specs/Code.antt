@@ -1,7 +1,7 @@
 -- The sources that rules 12 and 15 refuse, as gaps among the values of SEL (9 bits) and, above it, REL: a row for each 32 values. These are
 -- the code's tables; what they say of the rules is proved in proofs/OfGaps.antt, over specs/Instruction.antt and specs/Grants.antt.
-use Prim.Native.Nat.{ℕ, zero, suc, _+_, _-_, _/_, _%_, _^_, min}
-use mathlib.Core.Bool.{Bool, true, cond, _&&_, _||_}
+use Prim.Native.Nat.{ℕ, zero, suc, _+_, _-_, _/_, _%_, _^_, min, max}
+use mathlib.Core.Bool.{Bool, true, cond, _||_}
 use mathlib.Core.List.{List, [], _∷_}
 use lib.Dec.{eqb, ltb}
 use lib.ListN.{getD}
@@ -9,7 +9,8 @@ use Rattle.bits.specs.Fields.{bits, valueIn}
 use Rattle.formats.specs.Fields.{Field, position, _of_, «SRC0_SEL», «SRC0_REL», «SRC1_SEL», «SRC1_REL», «SRC2_SEL», «SRC2_REL», «INDEX_MODE», «PRED_SEL», «BANK_SWIZZLE», «DST_GPR», «DST_REL»}
 use Rattle.grants.specs.declared.Limits.{Limits}
 use Rattle.grants.specs.Grants.{locked}
-use Rattle.instructions.specs.Instruction.{isOp3, isWritten}
+use Rattle.instructions.specs.Instruction.{isWritten, literals}
+use Rattle.instructions.specs.Code.{thirdWord}
 
 -- SEL and, above it, REL, as one number
 abbrev pub withRel : Field → Field → ℕ → ℕ
@@ -43,18 +44,24 @@ isAmong x start width = ltb ((x + (2 ^ 32 - start)) % 2 ^ 32) width
 unfoldable pub inGap : List ℕ → List ℕ → ℕ → Bool
 inGap starts widths x = isAmong x (getD starts (x / 32 % 32) 0) (getD widths (x / 32 % 32) 0)
 
--- the destination is written, and its relative bit is not set
-unfoldable pub namesDestination : ℕ → Bool
-namesDestination hi = isWritten hi && eqb («DST_REL» of hi) 0
+-- the destination's register, with its relative bit above it, lies in the gap of registers; 255, which stands for one that is not written, lies
+-- behind it, and so does every number with that bit
+unfoldable pub writesGap : List ℕ → List ℕ → ℕ → Bool
+writesGap starts widths hi =
+    isAmong (cond (isWritten hi) (withRel «DST_GPR» «DST_REL» hi) 255) (getD starts 0 0) (getD widths 0 0)
 
--- a source is 253, a literal
+-- a source is 253, a literal, without its relative bit
 unfoldable pub asksLiteral : ℕ → ℕ → Bool
-asksLiteral lo hi = eqb («SRC0_SEL» of lo) 253 || (eqb («SRC1_SEL» of lo) 253 || (isOp3 hi && eqb («SRC2_SEL» of hi) 253))
+asksLiteral lo hi =
+    eqb (withRel «SRC0_SEL» «SRC0_REL» lo) 253
+    || (eqb (withRel «SRC1_SEL» «SRC1_REL» lo) 253 || eqb (withRel «SRC2_SEL» «SRC2_REL» (thirdWord lo hi)) 253)
+
+unfoldable pub moreLiterals : ℕ → ℕ → ℕ → ℕ
+moreLiterals n lo hi = cond (asksLiteral lo hi) (max n (literals lo hi)) n
 
 -- what is asked of an instruction: PRED_SEL, INDEX_MODE, bank swizzle; sources 0 and 1; source 2 of an OP3; the destination
 unfoldable pub brokenBy : List ℕ → List ℕ → ℕ → ℕ → Bool
 brokenBy starts widths lo hi =
     cond (eqb («PRED_SEL» of lo) 1 || (ltb 4 («INDEX_MODE» of lo) || ltb 5 («BANK_SWIZZLE» of hi))) true
     (cond (inGap starts widths (withRel «SRC0_SEL» «SRC0_REL» lo) || inGap starts widths (withRel «SRC1_SEL» «SRC1_REL» lo)) true
-    (cond (isOp3 hi && inGap starts widths (withRel «SRC2_SEL» «SRC2_REL» hi)) true
-    (inGap starts widths («DST_GPR» of hi) && namesDestination hi)))
+    (cond (inGap starts widths (withRel «SRC2_SEL» «SRC2_REL» (thirdWord lo hi))) true (writesGap starts widths hi)))

@@ -7,15 +7,14 @@ use bits::Bits;
 use bits::read;
 use formats::fields;
 use grants::Limits;
-use instructions::is_op3;
+use instructions::chosen;
+use instructions::is_written;
 use instructions::larger;
 use instructions::literals_of;
+use instructions::third_word;
 ghost use mathlib.Core.Path.{_≡_};
-ghost use mathlib.Core.Bool.{_&&_};
-ghost use Prim.Native.Nat.{_-_, max, min};
-ghost use Rattle.formats.specs.Fields.{«SRC2_SEL», «SRC2_REL»};
-ghost use Rattle.instructions.specs.Instruction as instruction;
-ghost use Rattle.screens.specs.Code.{withRel, byRow, startsOf, widthsOf, isAmong, inGap, namesDestination, asksLiteral, brokenBy};
+ghost use Prim.Native.Nat.{_-_, min};
+ghost use Rattle.screens.specs.Code.{byRow, startsOf, widthsOf, isAmong, inGap, writesGap, asksLiteral, moreLiterals, brokenBy};
 
 // SEL and, above it, REL, as one number.
 const SOURCE0: Bits = Bits(fields::SRC0_REL.0, fields::SRC0_SEL.1);
@@ -23,6 +22,9 @@ const SOURCE0: Bits = Bits(fields::SRC0_REL.0, fields::SRC0_SEL.1);
 const SOURCE1: Bits = Bits(fields::SRC1_REL.0, fields::SRC1_SEL.1);
 
 const SOURCE2: Bits = Bits(fields::SRC2_REL.0, fields::SRC2_SEL.1);
+
+// A destination's register and, above it, its relative bit.
+const DESTINATION: Bits = Bits(fields::DST_REL.0, fields::DST_GPR.1);
 
 // A number for each row: registers, the two sets of locked constants, what is reserved among the inline constants, the constant
 // file; then, with REL set, the inline constants.
@@ -115,20 +117,14 @@ fn in_gap(starts: &[u32; 32], widths: &[u32; 32], x: u32) -> bool
     is_among(x, starts[row], widths[row])
 }
 
-// Source 2 of an OP3.
-fn third_in_gap(starts: &[u32; 32], widths: &[u32; 32], high: u32) -> bool
-    ensures { λ r. ⌜ r ≡ (instruction.isOp3 high && inGap (now (starts .entry)) (now (widths .entry)) (withRel «SRC2_SEL» «SRC2_REL» high)) ⌝ }
+// Whether the destination is a register in the gap of registers, and written. Its relative bit makes it a number behind that gap, and so is what
+// stands for one that is not written.
+fn writes_gap(starts: &[u32; 32], widths: &[u32; 32], high: u32) -> bool
+    ensures { λ r. ⌜ r ≡ writesGap (now (starts .entry)) (now (widths .entry)) high ⌝ }
 {
-    if is_op3(high) {
-        return in_gap(starts, widths, read(high, SOURCE2));
-    }
-    false
-}
-
-fn names_destination(high: u32) -> bool
-    ensures { λ r. ⌜ r ≡ namesDestination high ⌝ }
-{
-    (is_op3(high) | (read(high, fields::WRITE_MASK) == 1)) & (read(high, fields::DST_REL) == 0)
+    let written = is_written(high);
+    let register = chosen(written, read(high, DESTINATION), 255);
+    is_among(register, starts[0], widths[0])
 }
 
 // Whether the instruction breaks rule 12 or 15, by the gaps.
@@ -146,27 +142,26 @@ pub fn breaks_alone(starts: &[u32; 32], widths: &[u32; 32], low: u32, high: u32)
     if first | second {
         return true;
     }
-    if third_in_gap(starts, widths, high) {
+    if in_gap(starts, widths, read(third_word(low, high), SOURCE2)) {
         return true;
     }
-    if in_gap(starts, widths, read(high, fields::DST_GPR)) {
-        return names_destination(high);
-    }
-    false
+    writes_gap(starts, widths, high)
 }
 
+// Whether a source is 253, a literal, without its relative bit; with it rule 12 is broken.
 fn asks_literal(low: u32, high: u32) -> bool
     ensures { λ r. ⌜ r ≡ asksLiteral low high ⌝ }
 {
-    let first = read(low, fields::SRC0_SEL) == 253;
-    let second = read(low, fields::SRC1_SEL) == 253;
-    let third = is_op3(high) & (read(high, fields::SRC2_SEL) == 253);
+    let first = read(low, SOURCE0) == 253;
+    let second = read(low, SOURCE1) == 253;
+    let third = read(third_word(low, high), SOURCE2) == 253;
     first | (second | third)
 }
 
-// The literal quadwords of a group with this instruction in it, too.
+// The literal quadwords of a group with this instruction in it, too, which breaks nothing by itself. Most have no literal, and to find the
+// highest channel without a branch costs more than is lost by wrong guesses (docs/MACHINE-CODE.md).
 pub fn more_literals(so_far: u32, low: u32, high: u32) -> u32
-    ensures { λ r. ⌜ r ≡ max «so_far» (instruction.literals low high) ⌝ }
+    ensures { λ r. ⌜ r ≡ moreLiterals «so_far» low high ⌝ }
 {
     if asks_literal(low, high) {
         return larger(so_far, literals_of(low, high));

@@ -2,9 +2,6 @@
 use borrow.Author.Needs.{needs}
 use native.Mathlib.Omega.{arith}
 use denote.Ref.{now}
-use Rattle.units.specs.Units.{words}
-use Rattle.microcode.proofs.OfCodec.{written-record}
-use Rattle.codec_for_c.specs.Values.{recordOf}
 use Rattle.codec_for_c.proofs.OfCodec.{encode-short, encode-other-form, encode-record}
 use Rattle.codec_for_c.proofs.OfValues.{encode-promises}
 use Rattle.codec_for_c.proofs.zlatomruk_encode.Statement.{statement}
@@ -26,13 +23,10 @@ returns-2 c =
 returns-3 : tie.Need-returns-3
 returns-3 c =
     let e = c .before .before .before in
-    let i = e .before .before in
-    let r = i .before .before .before in
+    let r = e .before .before .before .before in
     let a = r .before .before .before .args in
     encode-promises (now (a .values)) (now (a .words)) (a .start) _ _
-    (encode-record (now (a .values)) (now (a .words)) (a .start) _ _ _ (omega arith) (omega arith)
-    (written-record (recordOf (now (a .values))) (now (a .words)) (words (a .start)) (i .words-of .ensures) (e .write .ensures .0, e .write .ensures .1 .0))
-    (c .encoded-number3 .ensures))
+    (encode-record (now (a .values)) (now (a .words)) (a .start) _ _ _ (omega arith) (omega arith) (e .write .ensures .0, e .write .ensures .1) (c .encoded-number3 .ensures))
 
 pub zlatomruk-encode-spec : {M : Type 1} → statement M
 zlatomruk-encode-spec =
@@ -44,7 +38,6 @@ zlatomruk-encode-spec =
     (λ c κs. tt)
     returns-2
     (λ c κs. search needs)
-    (λ c κs. tt)
     (λ c κs. tt)
     (λ c. search needs)
     returns-3)

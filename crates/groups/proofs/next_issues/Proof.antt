@@ -1,19 +1,36 @@
--- `groups::next_issues` meets its contract. Assumes nothing.
-use mathlib.Core.Path.{_∙_, sym, ap}
-use Rattle.groups.specs.Code.{nextIssues}
-use Rattle.groups.proofs.OfGroup.{plain-if}
+-- `groups::next_issues` meets its contract, figure by figure. Assumes nothing.
+use mathlib.Core.Bool.{_||_}
+use mathlib.Core.Path.{_∙_}
+use Rattle.groups.specs.Code.{countedIf, nextIssues}
 use Rattle.groups.proofs.next_issues.Statement.{statement}
 use Rattle.groups.proofs.next_issues.Tie as tie
 
 returns : tie.Need-returns
+unfolding nextIssues
 returns c =
-    let a = c .before .before .before .args in
-    c .plain-issues .ensures
-    ∙ ap (λ k. nextIssues (a .issues) k (a .relative) (a .uneven))
-    (sym (plain-if (a .issue) (sym (c .before .before .is-issue .ensures) ∙ c .before .if1 .taken)))
-
-returns-2 : tie.Need-returns-2
-returns-2 c = c .counted-issues .ensures
+    let counted = c .before .before .before .before .before .before .before in
+    let kill = counted .before .before in
+    let a = kill .before .before .args in
+    let setter = kill .before .is-issue .ensures in
+    λ i.
+    record {
+      setters = (counted .before .counted-if .ensures ∙ (λ n. countedIf (setter n) (a .issues .setters))) i;
+      issued = (counted .counted-if2 .ensures ∙ (λ n. countedIf (setter n || kill .is-issue2 .ensures n) (a .issues .issued))) i;
+      kill = a .issues .kill || kill .is-issue2 .ensures i;
+      mova = a .issues .mova || c .before .before .before .before .before .is-issue3 .ensures i;
+      relative = a .issues .relative || a .relative;
+      reduction = a .issues .reduction || c .before .before .is-issue4 .ensures i;
+      uneven = a .issues .uneven || a .uneven;
+    }
 
 pub next-issues-spec : {M : Type 1} → statement M
-next-issues-spec = tie.close (tie.spec (λ c κs. tt) (λ c κs. tt) returns (λ c κs. tt) returns-2)
+next-issues-spec =
+    tie.close
+    (tie.spec
+    (λ c κs. tt)
+    (λ c κs. tt)
+    (λ c κs. tt)
+    (λ c κs. tt)
+    (λ c κs. tt)
+    (λ c κs. tt)
+    returns)

@@ -1,7 +1,9 @@
 -- `screens::asks_literal` meets its contract. Assumes nothing.
-use mathlib.Core.Bool.{_&&_, _||_}
+use mathlib.Core.Path.{_∙_}
+use mathlib.Core.Bool.{_||_}
 use lib.Dec.{eqb}
-use Rattle.screens.specs.Code.{asksLiteral}
+use Rattle.formats.specs.Fields.{«SRC2_SEL», «SRC2_REL»}
+use Rattle.screens.specs.Code.{withRel, asksLiteral}
 use Rattle.screens.proofs.asks_literal.Statement.{statement}
 use Rattle.screens.proofs.asks_literal.Tie as tie
 
@@ -10,7 +12,8 @@ unfolding asksLiteral
 returns c =
     λ i.
     eqb (c .before .before .before .read .ensures i) 253
-    || (eqb (c .before .before .read2 .ensures i) 253 || (c .before .is-op3 .ensures i && eqb (c .read3 .ensures i) 253))
+    || (eqb (c .before .before .read2 .ensures i) 253
+    || eqb ((c .read3 .ensures ∙ (λ j. withRel «SRC2_SEL» «SRC2_REL» (c .before .third-word .ensures j))) i) 253)
 
 pub asks-literal-spec : {M : Type 1} → statement M
 asks-literal-spec =

@@ -10,7 +10,13 @@ returns-2 : tie.Need-returns-2
 returns-2 c = search op2-refused
 
 returns-3 : tie.Need-returns-3
-returns-3 c = search op3-taken
+returns-3 c =
+    let t = c .before in
+    let k = t .before in
+    let i = k .before .before in
+    let m = i .before in
+    let a = m .before .args in
+    op3-taken (a .low) (a .high) _ _ _ _ (m .read .ensures) (i .if1 .left) (k .before .read3 .ensures) (k .op3-class .ensures) (t .is-taken2 .ensures) (c .if3 .taken)
 
 returns-4 : tie.Need-returns-4
 returns-4 c = search op3-refused
@@ -23,12 +29,8 @@ alu-pair-spec =
     (λ c κs. tt)
     (λ c κs. tt)
     (λ c κs. tt)
-    (λ c κs. tt)
-    (λ c κs. tt)
     returns
     returns-2
-    (λ c κs. tt)
-    (λ c κs. tt)
     (λ c κs. tt)
     (λ c κs. tt)
     (λ c κs. tt)

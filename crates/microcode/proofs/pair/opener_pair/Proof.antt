@@ -16,7 +16,5 @@ opener-pair-spec =
     (λ c κs. tt)
     (λ c κs. tt)
     (λ c κs. tt)
-    (λ c κs. tt)
-    (λ c κs. tt)
     returns
     returns-2)

@@ -2,7 +2,6 @@
 use borrow.Author.Needs.{needs}
 use mathlib.Core.Path.{_≡_}
 use Prim.Native.Nat.{ℕ, _/_, _%_}
-use Rattle.opcodes.specs.declared.alu.Class.{Class}
 use Rattle.opcodes.specs.declared.alu.Unit.{Unit}
 use Rattle.opcodes.specs.declared.alu.Issue.{Issue}
 use Rattle.opcodes.specs.Code.{unitNumbered, issueNumbered, classOfCode, classIn}
