@@ -169,7 +169,7 @@ module _ (limits : Limits) (lo hi : PerInstruction) (j : ℕ) (t : Tally) (c : C
       clearSeen (moreLiterals (t .literals) (lo j) (hi j)) (occupied (t .taken) u) more-issues ≡ seenOf limits lo hi (suc j)
   seen-there = seen-one ∙ ap (nextSeen limits (slots j) (hi 0) (lo j) (hi j)) c ∙ seen-next limits lo hi j
 
-  pub clear-next : Clear limits lo hi (withOne t code u (lo j) (hi j)) (j + 1)
+  pub clear-next : Clear limits lo hi (withOne t code u (moreLiterals (t .literals) (lo j) (hi j))) (j + 1)
   unfolding seenOf
   clear-next =
       ap (λ (k : ℕ). clearSeen (moreLiterals (t .literals) (lo j) (hi j)) (occupied (t .taken) u) (issuesOf lo hi k)) (add-one j)
@@ -418,7 +418,7 @@ module _ (limits : Limits) (pixel : Bool) (w : List ℕ) (s : Quadwords) (n : Sl
         (code-is : code ≡ codeOf (classOf high)) (unit-is : u ≡ unitBy (t .taken) (code % 4) («DST_CHAN» of high))
         {starts widths : List ℕ} (starts-are : starts ≡ startsOf limits) (widths-are : widths ≡ widthsOf limits)
         {wrong : Bool} (wrong-is : wrong ≡ isWrong starts widths (t .taken) code u low high) (h : wrong ≡ false)
-        {more : Tally} (more-is : more ≡ withOne t code u low high) where
+        {literal : ℕ} (literal-is : literal ≡ moreLiterals (t .literals) low high) {more : Tally} (more-is : more ≡ withOne t code u literal) where
       abbrev q : Quadwords
       q = slotQuadword s (r .g)
 
@@ -446,8 +446,12 @@ module _ (limits : Limits) (pixel : Bool) (w : List ℕ) (s : Quadwords) (n : Sl
       unit-here : u ≡ unitBy (t .taken) (code % 4) («DST_CHAN» of (highs (r .g) (r .j)))
       unit-here = unit-is ∙ ap (λ (k : ℕ). unitBy (t .taken) (code % 4) («DST_CHAN» of k)) high-there
 
-      more-there : more ≡ withOne t code u (lows (r .g) (r .j)) (highs (r .g) (r .j))
-      more-there = more-is ∙ (λ i. withOne t code u (low-there i) (high-there i))
+      more-there : more ≡ withOne t code u (moreLiterals (t .literals) (lows (r .g) (r .j)) (highs (r .g) (r .j)))
+      more-there =
+          more-is ∙ ap (withOne t code u) (literal-is ∙ (λ i. moreLiterals (t .literals) (low-there i) (high-there i)))
+
+      literals-kept : literal ≡ more .literals
+      literals-kept = sym (ap (λ (x : Tally). x .literals) more-is)
 
       clear-here : Clear limits (lows (r .g)) (highs (r .g)) more (r .j + 1)
       clear-here =
@@ -586,7 +590,7 @@ module _ (limits : Limits) (pixel : Bool) (w : List ℕ) (s : Quadwords) (n : Sl
 
         -- either way, and whether it reaches past the clause or not
         pub glancing-step :
-            {lits counted setters' : ℕ} {rest : Tally} {kill : Bool} {bad : Bool} → last < 2 → lits ≡ last * more .literals → counted ≡ last * more .issued
+            {lits counted setters' : ℕ} {rest : Tally} {kill : Bool} {bad : Bool} → last < 2 → lits ≡ last * literal → counted ≡ last * more .issued
             → kill ≡ (pixel && eqb (at + 1 + lits) (s .0 + n .0))
             → (bad ≡ false → 31 < counted → Issued (lowOf w (firstOf at (more .issued))) (highOf w (firstOf at (more .issued))) (sizeIn (more .issued)) (more .taken) kill)
             → bad ≡ false → setters' ≡ setters + counted / 16 % 16 → rest ≡ keptOf (1 - last) more → at + 1 + lits ≤ s .0 + n .0
@@ -595,14 +599,14 @@ module _ (limits : Limits) (pixel : Bool) (w : List ℕ) (s : Quadwords) (n : Sl
           where
             by : (v : ℕ) → last ≡ v → v < 2 → Glancing (at + 1 + lits) setters' rest
             by zero z m =
-                let none : lits ≡ 0 = a ∙ ap (λ (y : ℕ). y * more .literals) z ∙ (let q : 0 * more .literals ≡ 0 = omega arith in q) in
+                let none : lits ≡ 0 = a ∙ ap (λ (y : ℕ). y * literal) z ∙ (let q : 0 * literal ≡ 0 = omega arith in q) in
                 let no : counted ≡ 0 = b ∙ ap (λ (y : ℕ). y * more .issued) z ∙ (let q : 0 * more .issued ≡ 0 = omega arith in q) in
                 let place : at + 1 ≡ at + 1 + lits = omega (arith, none) in
                 let same : setters ≡ setters' = omega (arith, d, no) in
                 let stays : more ≡ rest = kept-all more ∙ ap (λ (y : ℕ). keptOf (1 - y) more) (sym z) ∙ sym x in
                 transport (λ i. Glancing (place i) (same i) (stays i)) (glancing-next z)
             by (suc zero) z m =
-                let all : lits ≡ more .literals = a ∙ ap (λ (y : ℕ). y * more .literals) z ∙ (let q : 1 * more .literals ≡ more .literals = omega arith in q) in
+                let all : lits ≡ more .literals = a ∙ ap (λ (y : ℕ). y * literal) z ∙ (let q : 1 * literal ≡ literal = omega arith in q) ∙ literals-kept in
                 let whole : counted ≡ more .issued = b ∙ ap (λ (y : ℕ). y * more .issued) z ∙ (let q : 1 * more .issued ≡ more .issued = omega arith in q) in
                 let place : at + 1 + more .literals ≡ at + 1 + lits = omega (arith, all) in
                 let same : setters + more .issued / 16 % 16 ≡ setters' = sym (d ∙ ap (λ (y : ℕ). setters + y / 16 % 16) whole) in

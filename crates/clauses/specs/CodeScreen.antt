@@ -14,7 +14,7 @@ use Rattle.card.specs.declared.Kind.{Kind}
 use Rattle.formats.specs.Fields.{_of_, «BANK_SWIZZLE»}
 use Rattle.grants.specs.declared.Limits.{Limits}
 use Rattle.groups.specs.Code.{Taken, badUnit, occupied, tallyOf}
-use Rattle.screens.specs.Code.{moreLiterals, brokenBy}
+use Rattle.screens.specs.Code.{brokenBy}
 use Rattle.clauses.specs.declared.screen.Tally.{Tally}
 use Rattle.clauses.specs.Clause.{highOf, isPixel, clauseChecks}
 
@@ -26,14 +26,9 @@ unfoldable pub isWrong : List ℕ → List ℕ → Taken → ℕ → ℕ → ℕ
 isWrong starts widths taken code unit lo hi =
     cond (brokenBy starts widths lo hi) true (eqb (code % 4) 0 || badUnit taken unit («BANK_SWIZZLE» of hi))
 
--- one instruction more
-abbrev pub withOne : Tally → ℕ → ℕ → ℕ → ℕ → Tally
-withOne t code unit lo hi =
-    record {
-      taken = occupied (t .taken) unit;
-      issued = t .issued + 16 ^ (code / 4 % 8);
-      literals = moreLiterals (t .literals) lo hi;
-    }
+-- one instruction more, with which the group has so many literal quadwords
+abbrev pub withOne : Tally → ℕ → ℕ → ℕ → Tally
+withOne t code unit literals = record { taken = occupied (t .taken) unit; issued = t .issued + 16 ^ (code / 4 % 8); literals = literals }
 
 -- all of it where the group goes on, nothing where it has ended
 abbrev pub keptOf : ℕ → Tally → Tally

@@ -52,14 +52,16 @@ pub(crate) fn is_clean(
     while at < end {
         let low = words[2 * at];
         let high = words[2 * at + 1];
+        // Where the next instruction stands comes first: all that is asked of it waits for that.
+        let literals = screens::more_literals(seen.literals, low, high);
+        let last = read(low, fields::LAST);
+        let next = at + 1 + only_if(last, literals) as usize;
         let code = instructions::class_code(high);
         let unit = unit_of(seen.taken, code, high);
         if is_wrong(&starts, &widths, seen.taken, code, unit, low, high) {
             return false;
         }
-        let more = with_one(seen, code, unit, low, high);
-        let last = read(low, fields::LAST);
-        let next = at + 1 + only_if(last, more.literals) as usize;
+        let more = with_one(seen, code, unit, literals);
         let issued = only_if(last, more.issued);
         if breaks_14(words, at, more, issued, pixel & (next == end)) {
             return false;
@@ -114,15 +116,15 @@ fn is_wrong(
     (code % 4 == 0) | alu_units::is_bad_unit(taken, unit, read(high, fields::BANK_SWIZZLE))
 }
 
-// What is kept, with one instruction more.
-fn with_one(seen: Tally, code: u32, unit: u32, low: u32, high: u32) -> Tally
+// What is kept, with one instruction more, in that unit; with it the group has so many literal quadwords.
+fn with_one(seen: Tally, code: u32, unit: u32, literals: u32) -> Tally
     requires { ⌜ seen .issued < 2 ^ 31 ⌝ }
-    ensures { λ r. ⌜ r ≡ withOne seen code unit low high ⌝ }
+    ensures { λ r. ⌜ r ≡ withOne seen code unit literals ⌝ }
 {
     Tally {
         taken: alu_units::occupy(seen.taken, unit),
         issued: seen.issued + weight(code),
-        literals: screens::more_literals(seen.literals, low, high),
+        literals,
     }
 }
 

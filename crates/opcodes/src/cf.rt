@@ -1,6 +1,6 @@
 // What a control-flow pair is, by its number.
 ghost use mathlib.Core.Path.{_≡_};
-ghost use Prim.Native.Nat.{_<_, _≤_};
+ghost use Prim.Native.Nat.{_<_, _≤_, _-_};
 ghost use Rattle.opcodes.specs.Numbers as numbers;
 
 // What a fetch clause holds: VTX and VTX_TC open vertex fetches, TEX texture fetches.
@@ -29,33 +29,24 @@ pub enum Control {
     Alu { pushes: bool, pops: usize },
 }
 
-// An ALU clause opener's number.
+// An ALU clause opener's number: 8 ALU, 9 PUSH_BEFORE, 10 POP_AFTER, 11 POP2_AFTER. Packs mix them, so no match tells them apart.
 pub fn cf_alu_control(number: u32) -> Control
     ensures { λ r. ⌜ r ≡ numbers.cfAluControl number ⌝ }
 {
-    match number {
-        // ALU
-        8 => Control::Alu {
-            pushes: false,
-            pops: 0,
-        },
-        // PUSH_BEFORE
-        9 => Control::Alu {
-            pushes: true,
-            pops: 0,
-        },
-        // POP_AFTER
-        10 => Control::Alu {
-            pushes: false,
-            pops: 1,
-        },
-        // POP2_AFTER
-        11 => Control::Alu {
-            pushes: false,
-            pops: 2,
-        },
-        _ => Control::NotTaken,
+    if (number < 8) | (11 < number) {
+        return Control::NotTaken;
     }
+    Control::Alu {
+        pushes: number == 9,
+        pops: popped_by(number),
+    }
+}
+
+// POP_AFTER pops one, POP2_AFTER two.
+fn popped_by(number: u32) -> usize
+    ensures { λ r. ⌜ r ≡ number - 9 ⌝ }
+{
+    if 9 < number { (number - 9) as usize } else { 0 }
 }
 
 // Any other pair's number. In two parts: of numbers that lie so close together the compiler makes a table, and no jump, which could not be

@@ -1,22 +1,24 @@
 -- The gaps by what the code tests, and what they say of rules 12 and 15: an instruction that they let through breaks neither. Assumes
 -- nothing.
 use mathlib.Core.Path.{_≡_, refl, sym, ap, _∙_}
-use mathlib.Core.Bool.{Bool, true, false, cond, _&&_, _||_, false≢true}
+use mathlib.Core.Bool.{Bool, true, false, cond, _&&_, _||_, or-true, false≢true}
 use mathlib.Core.List.{List, [], _∷_, _++_}
 use Prim.Native.Nat.{ℕ, zero, suc, _+_, _-_, _*_, _/_, _%_, _^_, _≤_, _<_, min, max}
 use native.Mathlib.Omega.{arith}
 use lib.Dec.{eqb, ltb, leb, eqb·suc-zero}
 use lib.ListN.{getD, drop}
 use borrow.Author.Tests.{ltb-true, ltb-false, le-leb, eqb-true, eq-eqb}
-use Rattle.formats.specs.Fields.{_of_, «SRC0_SEL», «SRC0_REL», «SRC1_SEL», «SRC1_REL», «SRC2_SEL», «SRC2_REL», «INDEX_MODE», «PRED_SEL», «BANK_SWIZZLE», «DST_GPR», «DST_REL»}
+use Rattle.formats.specs.Fields.{position, _of_, «SRC0_SEL», «SRC0_REL», «SRC0_CHAN», «SRC1_SEL», «SRC1_REL», «SRC1_CHAN», «SRC2_SEL», «SRC2_REL», «SRC2_CHAN», «INDEX_MODE», «PRED_SEL», «BANK_SWIZZLE», «DST_GPR», «DST_REL»}
 use Rattle.laws.proofs.OfTests.{neither}
+use Rattle.bits.specs.Fields.{bits, fieldOf, valueIn}
+use Rattle.opcodes.proofs.OfRuns.{same-below}
 use Rattle.grants.specs.declared.Limits.{Limits}
 use Rattle.grants.specs.Grants.{Name, aluRegister, set0, set1, constant, locked, granted, allGranted, sourceNames}
 use Rattle.grants.proofs.OfGrants.{locked-most, all-joined}
 use Rattle.instructions.specs.declared.Source.{Source}
 use Rattle.instructions.specs.Instruction.{isOp3, isWritten, isRelative, badSource, badField, namesOf, destinationNames, named, literals, sourceLiterals, source0Of, source1Of, source2Of}
 use Rattle.instructions.specs.Code.{thirdWord}
-use Rattle.screens.specs.Code.{withRel, times, byRow, startsOf, widthsOf, isAmong, inGap, writesGap, asksLiteral, moreLiterals, brokenBy}
+use Rattle.screens.specs.Code.{withRel, times, byRow, startsOf, widthsOf, isAmong, inGap, writesGap, badModes, asksLiteral, isSecond, asksSecond, moreLiterals, brokenBy}
 
 -- ---- what the code tests
 
@@ -24,21 +26,147 @@ use Rattle.screens.specs.Code.{withRel, times, byRow, startsOf, widthsOf
 pub wrapped : (x f r : ℕ) → x < 2 ^ 32 → f < 2 ^ 32 → r < 2 ^ 32 → (r + f) % 2 ^ 32 ≡ x → r ≡ (x + (2 ^ 32 - f)) % 2 ^ 32
 wrapped x f r h k l e = omega (arith, h, k, l, e)
 
-module _ (n lo hi : ℕ) where
-  pub literal-asked : asksLiteral lo hi ≡ true → max n (literals lo hi) ≡ moreLiterals n lo hi
-  unfolding moreLiterals
-  literal-asked h = rw h
+-- nine bits and the tenth above them
+module _ (n : ℕ) where
+  source0-bits : withRel «SRC0_SEL» «SRC0_REL» n ≡ «SRC0_SEL» of n + 512 * («SRC0_REL» of n)
+  source0-bits = omega arith
 
-  pub none-asked : asksLiteral lo hi ≡ false → n ≡ moreLiterals n lo hi
+  source1-bits : withRel «SRC1_SEL» «SRC1_REL» n ≡ «SRC1_SEL» of n + 512 * («SRC1_REL» of n)
+  source1-bits = omega arith
+
+  source2-bits : withRel «SRC2_SEL» «SRC2_REL» n ≡ «SRC2_SEL» of n + 512 * («SRC2_REL» of n)
+  source2-bits = omega arith
+
+-- ---- literals
+
+-- what a source asks for: nothing, one quadword, or two
+abbrev asked-by : Bool → Bool → ℕ
+asked-by literal second = cond literal (cond second 2 1) 0
+
+-- the highest of three, where there is one
+highest :
+    (a x b y d z : Bool) → (a || (b || d)) ≡ true
+    → cond ((a && x) || ((b && y) || (d && z))) 2 1 ≡ max (max (asked-by a x) (asked-by b y)) (asked-by d z)
+highest false x false y false z h = absurd (false≢true h)
+highest false x false y true false h = refl
+highest false x false y true true h = refl
+highest false x true false false z h = refl
+highest false x true false true false h = refl
+highest false x true false true true h = refl
+highest false x true true false z h = refl
+highest false x true true true false h = refl
+highest false x true true true true h = refl
+highest true false false y false z h = refl
+highest true false false y true false h = refl
+highest true false false y true true h = refl
+highest true false true false false z h = refl
+highest true false true false true false h = refl
+highest true false true false true true h = refl
+highest true false true true false z h = refl
+highest true false true true true false h = refl
+highest true false true true true true h = refl
+highest true true false y false z h = refl
+highest true true false y true false h = refl
+highest true true false y true true h = refl
+highest true true true false false z h = refl
+highest true true true false true false h = refl
+highest true true true false true true h = refl
+highest true true true true false z h = refl
+highest true true true true true false h = refl
+highest true true true true true true h = refl
+
+source-asks : (s : Source) → s .chan < 4 → sourceLiterals s ≡ asked-by (eqb (s .sel) 253) (ltb 1 (s .chan))
+unfolding sourceLiterals
+source-asks s h = by (eqb (s .sel) 253) (s .chan) h
+  where
+    by : (b : Bool) (c : ℕ) → c < 4 → cond b (c / 2 + 1) 0 ≡ asked-by b (ltb 1 c)
+    by false c l = refl
+    by true zero l = refl
+    by true (suc zero) l = refl
+    by true (suc (suc zero)) l = refl
+    by true (suc (suc (suc zero))) l = refl
+    by true (suc (suc (suc (suc c)))) l = absurd (omega arith)
+
+module _ (lo hi : ℕ) where
+  -- one that is 253 with its relative bit clear is 253
+  literal-there :
+      (x sel rel : ℕ) → x ≡ sel + 512 * rel → eqb x 253 ≡ true → eqb sel 253 ≡ true
+  literal-there x sel rel e h = eq-eqb sel 253 (omega (arith, e, eqb-true x 253 h))
+
+  some-literal :
+      asksLiteral lo hi ≡ true
+      → (eqb («SRC0_SEL» of lo) 253 || (eqb («SRC1_SEL» of lo) 253 || eqb («SRC2_SEL» of (thirdWord lo hi)) 253)) ≡ true
+  unfolding asksLiteral
+  some-literal h =
+      by (eqb (withRel «SRC0_SEL» «SRC0_REL» lo) 253) refl (eqb (withRel «SRC1_SEL» «SRC1_REL» lo) 253) refl h
+    where
+      by :
+          (a : Bool) → eqb (withRel «SRC0_SEL» «SRC0_REL» lo) 253 ≡ a → (b : Bool) → eqb (withRel «SRC1_SEL» «SRC1_REL» lo) 253 ≡ b
+          → (a || (b || eqb (withRel «SRC2_SEL» «SRC2_REL» (thirdWord lo hi)) 253)) ≡ true
+          → (eqb («SRC0_SEL» of lo) 253 || (eqb («SRC1_SEL» of lo) 253 || eqb («SRC2_SEL» of (thirdWord lo hi)) 253)) ≡ true
+      by true p b q r =
+          ap (λ (t : Bool). t || (eqb («SRC1_SEL» of lo) 253 || eqb («SRC2_SEL» of (thirdWord lo hi)) 253))
+          (literal-there _ («SRC0_SEL» of lo) («SRC0_REL» of lo) (source0-bits lo) p)
+      by false p true q r =
+          ap (λ (t : Bool). eqb («SRC0_SEL» of lo) 253 || (t || eqb («SRC2_SEL» of (thirdWord lo hi)) 253))
+          (literal-there _ («SRC1_SEL» of lo) («SRC1_REL» of lo) (source1-bits lo) q)
+          ∙ or-true (eqb («SRC0_SEL» of lo) 253)
+      by false p false q r =
+          ap (λ (t : Bool). eqb («SRC0_SEL» of lo) 253 || (eqb («SRC1_SEL» of lo) 253 || t))
+          (literal-there _ («SRC2_SEL» of (thirdWord lo hi)) («SRC2_REL» of (thirdWord lo hi)) (source2-bits (thirdWord lo hi)) r)
+          ∙ ap (λ (t : Bool). eqb («SRC0_SEL» of lo) 253 || t) (or-true (eqb («SRC1_SEL» of lo) 253))
+          ∙ or-true (eqb («SRC0_SEL» of lo) 253)
+
+  -- an OP2 has its first source once more
+  third-asks :
+      max (max (sourceLiterals (source0Of lo)) (sourceLiterals (source1Of lo))) (sourceLiterals (source2Of (thirdWord lo hi))) ≡ literals lo hi
+  unfolding literals
+  third-asks = by (isOp3 hi)
+    where
+      by :
+          (b : Bool)
+          → max (max (sourceLiterals (source0Of lo)) (sourceLiterals (source1Of lo))) (sourceLiterals (source2Of (cond b hi lo))) ≡ max (max (sourceLiterals (source0Of lo)) (sourceLiterals (source1Of lo))) (cond b (sourceLiterals (source2Of hi)) 0)
+      by true = refl
+      by false = omega arith
+
+  literals-by : asksLiteral lo hi ≡ true → cond (asksSecond lo hi) 2 1 ≡ literals lo hi
+  unfolding asksSecond isSecond
+  literals-by h =
+      highest (eqb («SRC0_SEL» of lo) 253) (ltb 1 («SRC0_CHAN» of lo)) (eqb («SRC1_SEL» of lo) 253) (ltb 1 («SRC1_CHAN» of lo)) (eqb («SRC2_SEL» of (thirdWord lo hi)) 253) (ltb 1 («SRC2_CHAN» of (thirdWord lo hi))) (some-literal h)
+      ∙ sym (λ i. max (max (source-asks (source0Of lo) (omega arith) i) (source-asks (source1Of lo) (omega arith) i)) (source-asks (source2Of (thirdWord lo hi)) (omega arith) i))
+      ∙ third-asks
+
+  pub literal-asked : (n : ℕ) → asksLiteral lo hi ≡ true → max n (cond (asksSecond lo hi) 2 1) ≡ moreLiterals n lo hi
   unfolding moreLiterals
-  none-asked h = rw h
+  literal-asked n h = ap (max n) (literals-by h) ∙ rw h
+
+  pub none-asked : (n : ℕ) → asksLiteral lo hi ≡ false → n ≡ moreLiterals n lo hi
+  unfolding moreLiterals
+  none-asked n h = rw h
+
+-- ---- PRED_SEL and INDEX_MODE
+
+-- the bits that are set, and what they say, over all values of the two
+abbrev refused : ℕ → Bool
+refused m = eqb (fieldOf 0xE0E0_FFE0 m 1) 1
+
+abbrev bad : ℕ → Bool
+bad m = eqb (m / 8) 1 || ltb 4 (m % 8)
+
+pub bad-modes : (lo : ℕ) {m r : ℕ} → m ≡ valueIn lo (bits (position «PRED_SEL» .0) (position «INDEX_MODE» .1)) → r ≡ fieldOf 0xE0E0_FFE0 m 1 → eqb r 1 ≡ badModes lo
+unfolding badModes
+bad-modes lo {m = m} e f =
+    let few : m < 32 = omega (arith, e) in
+    let p : m / 8 ≡ «PRED_SEL» of lo = omega (arith, e) in
+    let i : m % 8 ≡ «INDEX_MODE» of lo = omega (arith, e) in
+    ap (λ (k : ℕ). eqb k 1) f ∙ same-below refused bad 32 refl m few ∙ (λ n. eqb (p n) 1 || ltb 4 (i n))
 
 -- ---- one instruction, test by test
 
 -- what the code has asked so far
 module _ (starts widths : List ℕ) (lo hi : ℕ) where
   abbrev fieldTest : Bool
-  fieldTest = eqb («PRED_SEL» of lo) 1 || (ltb 4 («INDEX_MODE» of lo) || ltb 5 («BANK_SWIZZLE» of hi))
+  fieldTest = badModes lo || ltb 5 («BANK_SWIZZLE» of hi)
 
   abbrev sourceTest : Bool
   sourceTest = inGap starts widths (withRel «SRC0_SEL» «SRC0_REL» lo) || inGap starts widths (withRel «SRC1_SEL» «SRC1_REL» lo)
@@ -248,17 +376,6 @@ module _ (l : Limits) (s : Source) (h : inGap (startsOf l) (widthsOf l) (s .sel 
 
 -- ---- one instruction
 
--- nine bits and the tenth above them
-module _ (n : ℕ) where
-  source0-bits : withRel «SRC0_SEL» «SRC0_REL» n ≡ «SRC0_SEL» of n + 512 * («SRC0_REL» of n)
-  source0-bits = omega arith
-
-  source1-bits : withRel «SRC1_SEL» «SRC1_REL» n ≡ «SRC1_SEL» of n + 512 * («SRC1_REL» of n)
-  source1-bits = omega arith
-
-  source2-bits : withRel «SRC2_SEL» «SRC2_REL» n ≡ «SRC2_SEL» of n + 512 * («SRC2_REL» of n)
-  source2-bits = omega arith
-
 -- a source that rule 12 lets pass, and that is not 253 without its relative bit, is no literal
 no-literal : (s : Source) → s .rel < 2 → badSource s ≡ false → eqb (s .sel + 512 * s .rel) 253 ≡ false → sourceLiterals s ≡ 0
 unfolding sourceLiterals badSource isRelative
@@ -335,11 +452,11 @@ module _ (l : Limits) (lo hi : ℕ) (h : brokenBy (startsOf l) (widthsOf l) lo h
 
   -- an instruction that the gaps let through breaks neither rule 12
   pub unbroken-field : badField lo hi ≡ false
-  unfolding badField
+  unfolding badField badModes
   unbroken-field =
-      let f = neither (eqb («PRED_SEL» of lo) 1) _ (asked .0) in
-      let g = neither (ltb 4 («INDEX_MODE» of lo)) _ (f .1) in
-      rw (f .0, g .0, g .1, first .0, second .0) (third .0)
+      let f = neither (badModes lo) _ (asked .0) in
+      let g = neither (eqb («PRED_SEL» of lo) 1) _ (f .0) in
+      rw (g .0, g .1, f .1, first .0, second .0) (third .0)
 
   -- nor rule 15
   pub unbroken-grants : allGranted l (named lo hi) ≡ true

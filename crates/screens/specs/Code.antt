@@ -1,12 +1,12 @@
 -- The sources that rules 12 and 15 refuse, as gaps among the values of SEL (9 bits) and, above it, REL: a row for each 32 values. These are
 -- the code's tables; what they say of the rules is proved in proofs/OfGaps.antt, over specs/Instruction.antt and specs/Grants.antt.
 use Prim.Native.Nat.{ℕ, zero, suc, _+_, _-_, _/_, _%_, _^_, min, max}
-use mathlib.Core.Bool.{Bool, true, cond, _||_}
+use mathlib.Core.Bool.{Bool, true, cond, _&&_, _||_}
 use mathlib.Core.List.{List, [], _∷_}
 use lib.Dec.{eqb, ltb}
 use lib.ListN.{getD}
 use Rattle.bits.specs.Fields.{bits, valueIn}
-use Rattle.formats.specs.Fields.{Field, position, _of_, «SRC0_SEL», «SRC0_REL», «SRC1_SEL», «SRC1_REL», «SRC2_SEL», «SRC2_REL», «INDEX_MODE», «PRED_SEL», «BANK_SWIZZLE», «DST_GPR», «DST_REL»}
+use Rattle.formats.specs.Fields.{Field, position, _of_, «SRC0_SEL», «SRC0_REL», «SRC0_CHAN», «SRC1_SEL», «SRC1_REL», «SRC1_CHAN», «SRC2_SEL», «SRC2_REL», «SRC2_CHAN», «INDEX_MODE», «PRED_SEL», «BANK_SWIZZLE», «DST_GPR», «DST_REL»}
 use Rattle.grants.specs.declared.Limits.{Limits}
 use Rattle.grants.specs.Grants.{locked}
 use Rattle.instructions.specs.Instruction.{isWritten, literals}
@@ -50,11 +50,24 @@ unfoldable pub writesGap : List ℕ → List ℕ → ℕ → Bool
 writesGap starts widths hi =
     isAmong (cond (isWritten hi) (withRel «DST_GPR» «DST_REL» hi) 255) (getD starts 0 0) (getD widths 0 0)
 
+-- PRED_SEL is 1, or INDEX_MODE above 4
+unfoldable pub badModes : ℕ → Bool
+badModes lo = eqb («PRED_SEL» of lo) 1 || ltb 4 («INDEX_MODE» of lo)
+
 -- a source is 253, a literal, without its relative bit
 unfoldable pub asksLiteral : ℕ → ℕ → Bool
 asksLiteral lo hi =
     eqb (withRel «SRC0_SEL» «SRC0_REL» lo) 253
     || (eqb (withRel «SRC1_SEL» «SRC1_REL» lo) 253 || eqb (withRel «SRC2_SEL» «SRC2_REL» (thirdWord lo hi)) 253)
+
+-- one of them is in channel Z or W, the second quadword's
+unfoldable pub isSecond : ℕ → ℕ → Bool
+isSecond sel chan = eqb sel 253 && ltb 1 chan
+
+unfoldable pub asksSecond : ℕ → ℕ → Bool
+asksSecond lo hi =
+    isSecond («SRC0_SEL» of lo) («SRC0_CHAN» of lo)
+    || (isSecond («SRC1_SEL» of lo) («SRC1_CHAN» of lo) || isSecond («SRC2_SEL» of (thirdWord lo hi)) («SRC2_CHAN» of (thirdWord lo hi)))
 
 unfoldable pub moreLiterals : ℕ → ℕ → ℕ → ℕ
 moreLiterals n lo hi = cond (asksLiteral lo hi) (max n (literals lo hi)) n
@@ -62,6 +75,6 @@ moreLiterals n lo hi = cond (asksLiteral lo hi) (max n (literals lo hi)) n
 -- what is asked of an instruction: PRED_SEL, INDEX_MODE, bank swizzle; sources 0 and 1; source 2 of an OP3; the destination
 unfoldable pub brokenBy : List ℕ → List ℕ → ℕ → ℕ → Bool
 brokenBy starts widths lo hi =
-    cond (eqb («PRED_SEL» of lo) 1 || (ltb 4 («INDEX_MODE» of lo) || ltb 5 («BANK_SWIZZLE» of hi))) true
+    cond (badModes lo || ltb 5 («BANK_SWIZZLE» of hi)) true
     (cond (inGap starts widths (withRel «SRC0_SEL» «SRC0_REL» lo) || inGap starts widths (withRel «SRC1_SEL» «SRC1_REL» lo)) true
     (cond (inGap starts widths (withRel «SRC2_SEL» «SRC2_REL» (thirdWord lo hi))) true (writesGap starts widths hi)))

@@ -4,17 +4,17 @@
 // most: so a source is looked up in a table of gaps, which is made once for a clause. Which rule is broken, and where, is left to
 // `groups`. Branches go by what an accepted pack never has, so that each of them is foreseen.
 use bits::Bits;
+use bits::field;
 use bits::read;
 use formats::fields;
 use grants::Limits;
 use instructions::chosen;
 use instructions::is_written;
 use instructions::larger;
-use instructions::literals_of;
 use instructions::third_word;
 ghost use mathlib.Core.Path.{_≡_};
 ghost use Prim.Native.Nat.{_-_, min};
-ghost use Rattle.screens.specs.Code.{byRow, startsOf, widthsOf, isAmong, inGap, writesGap, asksLiteral, moreLiterals, brokenBy};
+ghost use Rattle.screens.specs.Code.{byRow, startsOf, widthsOf, isAmong, inGap, writesGap, badModes, asksLiteral, isSecond, asksSecond, moreLiterals, brokenBy};
 
 // SEL and, above it, REL, as one number.
 const SOURCE0: Bits = Bits(fields::SRC0_REL.0, fields::SRC0_SEL.1);
@@ -22,6 +22,11 @@ const SOURCE0: Bits = Bits(fields::SRC0_REL.0, fields::SRC0_SEL.1);
 const SOURCE1: Bits = Bits(fields::SRC1_REL.0, fields::SRC1_SEL.1);
 
 const SOURCE2: Bits = Bits(fields::SRC2_REL.0, fields::SRC2_SEL.1);
+
+// INDEX_MODE and, above it, PRED_SEL; and a bit for each value of the two that rule 12 refuses: where PRED_SEL is 1 all, else INDEX_MODE 5 to 7.
+const MODES: Bits = Bits(fields::PRED_SEL.0, fields::INDEX_MODE.1);
+
+const REFUSED_MODES: u32 = 0xE0E0_FFE0;
 
 // A destination's register and, above it, its relative bit.
 const DESTINATION: Bits = Bits(fields::DST_REL.0, fields::DST_GPR.1);
@@ -127,14 +132,20 @@ fn writes_gap(starts: &[u32; 32], widths: &[u32; 32], high: u32) -> bool
     is_among(register, starts[0], widths[0])
 }
 
+// Whether PRED_SEL is 1 or INDEX_MODE above 4.
+fn has_bad_modes(low: u32) -> bool
+    ensures { λ r. ⌜ r ≡ badModes low ⌝ }
+{
+    field(REFUSED_MODES, read(low, MODES), 1) == 1
+}
+
 // Whether the instruction breaks rule 12 or 15, by the gaps.
 pub fn breaks_alone(starts: &[u32; 32], widths: &[u32; 32], low: u32, high: u32) -> bool
     ensures { λ r. ⌜ r ≡ brokenBy (now (starts .entry)) (now (widths .entry)) low high ⌝ }
 {
-    let predicate = read(low, fields::PRED_SEL) == 1;
-    let index = 4 < read(low, fields::INDEX_MODE);
+    let modes = has_bad_modes(low);
     let swizzle = 5 < read(high, fields::BANK_SWIZZLE);
-    if predicate | (index | swizzle) {
+    if modes | swizzle {
         return true;
     }
     let first = in_gap(starts, widths, read(low, SOURCE0));
@@ -158,13 +169,33 @@ fn asks_literal(low: u32, high: u32) -> bool
     first | (second | third)
 }
 
+// Whether a literal is in channel Z or W, the second quadword's.
+fn asks_second(low: u32, high: u32) -> bool
+    ensures { λ r. ⌜ r ≡ asksSecond low high ⌝ }
+{
+    let third = third_word(low, high);
+    let first = is_second(read(low, fields::SRC0_SEL), read(low, fields::SRC0_CHAN));
+    let second = is_second(read(low, fields::SRC1_SEL), read(low, fields::SRC1_CHAN));
+    let last = is_second(
+        read(third, fields::SRC2_SEL),
+        read(third, fields::SRC2_CHAN),
+    );
+    first | (second | last)
+}
+
+fn is_second(sel: u32, chan: u32) -> bool
+    ensures { λ r. ⌜ r ≡ isSecond sel chan ⌝ }
+{
+    (sel == 253) & (1 < chan)
+}
+
 // The literal quadwords of a group with this instruction in it, too, which breaks nothing by itself. Most have no literal, and to find the
 // highest channel without a branch costs more than is lost by wrong guesses (docs/MACHINE-CODE.md).
 pub fn more_literals(so_far: u32, low: u32, high: u32) -> u32
     ensures { λ r. ⌜ r ≡ moreLiterals «so_far» low high ⌝ }
 {
     if asks_literal(low, high) {
-        return larger(so_far, literals_of(low, high));
+        return larger(so_far, chosen(asks_second(low, high), 2, 1));
     }
     so_far
 }

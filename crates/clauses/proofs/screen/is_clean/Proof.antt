@@ -112,7 +112,7 @@ returns c e = absurd (false≢true e)
 
 with-one-requires : tie.Need-with-one-requires Inv-loop μ-loop
 with-one-requires c κs =
-    let inside = c .before .before .before .before .before .before .before .before in
+    let inside = c .before .before .before .before .before .before .before .before .before .before .before in
     let none = inside .before .before in
     let widths = none .before .before .before in
     let start = widths .before .before .before in
@@ -123,7 +123,7 @@ with-one-requires c κs =
 
 add-next : tie.Need-add-next Inv-loop μ-loop
 add-next c =
-    let inside = c .before .before .before .before .before .before .before .before .before .before in
+    let inside = c .before .before .before .before in
     let none = inside .before .before in
     let widths = none .before .before .before in
     let start = widths .before .before .before in
@@ -139,7 +139,7 @@ cast-next c = search needs
 
 add-next-2 : tie.Need-add-next-2 Inv-loop μ-loop
 add-next-2 c =
-    let inside = c .before .before .before .before .before .before .before .before .before .before .before in
+    let inside = c .before .before .before .before .before in
     let none = inside .before .before in
     let widths = none .before .before .before in
     let start = widths .before .before .before in
@@ -148,18 +148,19 @@ add-next-2 c =
     record { fits = omega (arith, room, inside .loop-test .taken) }
 
 only-if-requires-2 : tie.Need-only-if-requires-2 Inv-loop μ-loop
-only-if-requires-2 c κs = omega (arith, c .before .read .ensures)
+only-if-requires-2 c κs = omega (arith, c .before .before .before .before .before .before .before .before .read .ensures)
 
 breaks-14-requires : tie.Need-breaks-14-requires Inv-loop μ-loop
 breaks-14-requires c κs =
-    let literal = c .before in
-    let last = literal .before in
-    let more = last .before in
+    let more = c .before in
     let wrong = more .before in
     let tested = wrong .before in
     let unit = tested .before .before .before in
     let code = unit .before in
-    let inside = code .before .before .before in
+    let literal = code .before in
+    let last = literal .before in
+    let found = last .before in
+    let inside = found .before .before .before in
     let none = inside .before .before in
     let widths = none .before .before .before in
     let start = widths .before .before .before in
@@ -168,7 +169,7 @@ breaks-14-requires c κs =
     let glance = inside .before .loop .inv (a .limits) (a .start) (a .slots) (widths .before .gap-starts .ensures) (widths .gap-widths .ensures) refl refl (omega (arith, inside .loop-test .taken)) in
     glancing-ends (a .limits) (a .pixel) (now (a .words)) (a .start) (a .slots) glance (omega (arith, inside .loop-test .taken)) refl refl
     (code .class-code .ensures) (unit .unit-of .ensures) (widths .before .gap-starts .ensures) (widths .gap-widths .ensures)
-    (tested .is-wrong .ensures) (wrong .if1 .left) (more .with-one .ensures) room
+    (tested .is-wrong .ensures) (wrong .if1 .left) (found .more-literals .ensures) (more .with-one .ensures) room
 
 returns-2 : tie.Need-returns-2 Inv-loop μ-loop
 returns-2 c e = absurd (false≢true e)
@@ -178,14 +179,15 @@ cast-setters c = search needs
 
 add-setters : tie.Need-add-setters Inv-loop μ-loop
 add-setters c =
-    let literal = c .before .before .before in
-    let last = literal .before in
-    let more = last .before in
+    let more = c .before .before .before in
     let wrong = more .before in
     let tested = wrong .before in
     let unit = tested .before .before .before in
     let code = unit .before in
-    let inside = code .before .before .before in
+    let literal = code .before in
+    let last = literal .before in
+    let found = last .before in
+    let inside = found .before .before .before in
     let none = inside .before .before in
     let widths = none .before .before .before in
     let start = widths .before .before .before in
@@ -195,10 +197,10 @@ add-setters c =
     record { fits = omega (arith, glance .few, glance .at-is, room, inside .loop-test .taken) }
 
 sub-kept : tie.Need-sub-kept Inv-loop μ-loop
-sub-kept c = omega (arith, c .before .before .before .before .read .ensures)
+sub-kept c = omega (arith, c .before .before .before .before .before .before .before .before .before .before .before .read .ensures)
 
 kept-requires : tie.Need-kept-requires Inv-loop μ-loop
-kept-requires c κs = omega (arith, c .before .before .before .before .read .ensures)
+kept-requires c κs = omega (arith, c .before .before .before .before .before .before .before .before .before .before .before .read .ensures)
 
 loop-less : tie.Need-loop-less Inv-loop μ-loop
 loop-less c = omega arith
@@ -207,19 +209,20 @@ loop-again : tie.Need-loop-again Inv-loop μ-loop
 loop-again c limits s n p q o e fits =
     let asked = c .before .before in
     let issued = asked .before in
-    let literal = issued .before in
-    let last = literal .before in
-    let more = last .before in
+    let more = issued .before in
     let wrong = more .before in
     let tested = wrong .before in
     let unit = tested .before .before .before in
     let code = unit .before in
-    let inside = code .before .before .before in
+    let literal = code .before in
+    let last = literal .before in
+    let found = last .before in
+    let inside = found .before .before .before in
     let none = inside .before .before in
     let a = none .before .before .before .before .before .before .args in
     let here : inside .before .loop .at < s .0 + n .0 = omega (arith, inside .loop-test .taken, e) in
     glancing-step limits (a .pixel) (now (a .words)) s n (inside .before .loop .inv limits s n p q o e (omega (arith, here))) here refl refl
-    (code .class-code .ensures) (unit .unit-of .ensures) p q (tested .is-wrong .ensures) (wrong .if1 .left) (more .with-one .ensures)
+    (code .class-code .ensures) (unit .unit-of .ensures) p q (tested .is-wrong .ensures) (wrong .if1 .left) (found .more-literals .ensures) (more .with-one .ensures)
     (last .read .ensures) (omega (arith, last .read .ensures)) (literal .only-if .ensures) (issued .only-if2 .ensures)
     (λ i. a .pixel && eqb (inside .before .loop .at + 1 + literal .only-if .result) (e i)) (asked .breaks-14 .ensures) (c .before .if2 .left) refl
     (c .kept .ensures) fits
@@ -258,14 +261,15 @@ is-clean-spec =
     shared-slice-read-high
     (λ c κs. tt)
     (λ c κs. tt)
-    (λ c κs. tt)
-    returns
-    with-one-requires
-    (λ c κs. tt)
     add-next
     only-if-requires
     cast-next
     add-next-2
+    (λ c κs. tt)
+    (λ c κs. tt)
+    (λ c κs. tt)
+    returns
+    with-one-requires
     only-if-requires-2
     breaks-14-requires
     returns-2
