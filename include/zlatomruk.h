@@ -20,8 +20,8 @@
 extern "C" {
 #endif
 
-#define ZLATOMRUK_VERSION "0.7.0"
-#define ZLATOMRUK_VERSION_NUMBER 700 /* 10,000 times the first number, 100 times the second, and the third */
+#define ZLATOMRUK_VERSION "0.7.1"
+#define ZLATOMRUK_VERSION_NUMBER 701 /* 10,000 times the first number, 100 times the second, and the third */
 
 enum { ZLATOMRUK_STACK = 98304 };
 

@@ -15,6 +15,8 @@ use Rattle.laws.proofs.OfTests.{neither, by-test}
 use Rattle.units.specs.declared.Quadwords.{Quadwords}
 use Rattle.units.specs.declared.Slots.{Slots}
 use Rattle.units.specs.Units.{quadwords, slots, words, slotQuadword, slotBehind, slotsLeft, slotsLength, liesIn, lowAt, highAt}
+use Rattle.units.specs.Code.{quadwordsIn64}
+use Rattle.units.proofs.OfUnits.{capped-exact}
 use Rattle.formats.specs.Fields.{_of_, «BANK_SWIZZLE», «CLAMP», «DST_CHAN», «LAST», «OMOD», «OP2_INST»}
 use Rattle.opcodes.specs.Alu as alu
 use Rattle.opcodes.specs.Code.{codeOf}
@@ -348,6 +350,12 @@ kept-none t =
 pub reach : (w : List ℕ) (s : Quadwords) (n : Slots) → liesIn (words (length w)) s (slotsLength n) ≡ true → 2 * (s .0 + n .0) ≤ length w
 unfolding liesIn
 reach w s n h = omega (arith, leb-true (s .0 + n .0) (length w / 2) h)
+
+-- where they end, as the code adds it up
+pub ended :
+    (w : List ℕ) (s : Quadwords) (n : Slots) {q : Quadwords} → length w < 2 ^ 64 → 2 * (s .0 + n .0) ≤ length w → q ≡ quadwordsIn64 (slotQuadword s n)
+    → q .0 ≡ s .0 + n .0
+ended w s n h room e = ap (λ (x : Quadwords). x .0) e ∙ capped-exact (s .0 + n .0) (omega (arith, h, room))
 
 -- ---- the clause
 

@@ -45,7 +45,8 @@ pub(crate) fn is_clean(
 {
     let starts = screens::gap_starts(limits);
     let widths = screens::gap_widths(limits);
-    let end = start.0 + slots.0;
+    // The slots' quadwords are counted plainly from here on: each is read at its words' numbers, without a conversion and its cap.
+    let end = units::slot_quadword(start, slots).0;
     let mut at = start.0;
     let mut setters = 0;
     let mut seen = none_seen();

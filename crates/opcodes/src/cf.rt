@@ -49,8 +49,8 @@ fn popped_by(number: u32) -> usize
     if 9 < number { (number - 9) as usize } else { 0 }
 }
 
-// Any other pair's number. In two parts: of numbers that lie so close together the compiler makes a table, and no jump, which could not be
-// foreseen.
+// Any other pair's number. In two parts: of numbers that lie so close together the compiler can make a table, where what follows is the same for all;
+// where it isn't, as in the judge, it is a jump (docs/MACHINE-CODE.md, "Pairs").
 pub fn cf_control(number: u32) -> Control
     ensures { λ r. ⌜ r ≡ numbers.cfControl number ⌝ }
 {
