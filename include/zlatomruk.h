@@ -20,8 +20,8 @@
 extern "C" {
 #endif
 
-#define ZLATOMRUK_VERSION "0.7.1"
-#define ZLATOMRUK_VERSION_NUMBER 701 /* 10,000 times the first number, 100 times the second, and the third */
+#define ZLATOMRUK_VERSION "0.8.0"
+#define ZLATOMRUK_VERSION_NUMBER 800 /* 10,000 times the first number, 100 times the second, and the third */
 
 enum { ZLATOMRUK_STACK = 98304 };
 
@@ -50,7 +50,8 @@ enum zlatomruk_verdict {
     ZLATOMRUK_VERDICT_TARGET = 18,
     ZLATOMRUK_VERDICT_STACKS_DIFFER = 19,
     ZLATOMRUK_VERDICT_NO_ROOM = 20, /* the codec's */
-    ZLATOMRUK_VERDICT_NO_RECORD = 21 /* the codec's */
+    ZLATOMRUK_VERDICT_NO_RECORD = 21, /* the codec's */
+    ZLATOMRUK_VERDICT_CLAUSE_LAYOUT = 22 /* asked directly after 6 */
 };
 
 /* A card is seven lines of text, `kind=ps` and so on, in ZLATOMRUK_CARD_LENGTH bytes at most. Its kinds and builds: */

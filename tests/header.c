@@ -153,6 +153,9 @@ static uint8_t pack_of_nops[8 * 8192];
 
 static void check_answers(void) {
     static const char longest[] = "kind=ps\nbuild=production\ngprs=127\ntemps=1\nconsts=256\nstack=32\nquads=8192\n";
+    static const char of_five[] = "kind=ps\nbuild=production\ngprs=2\ntemps=0\nconsts=0\nstack=0\nquads=5\n";
+    /* Quadword 0 opens the clause of 3 and 4, quadword 1 that of 4 alone. */
+    static const uint32_t a_tail[] = {3, 0xA0040000, 4, 0xA0000000, 0, 0x00200000, 0x80000000, 0x00200C90, 0x80000400, 0x20200C90};
     uint64_t refused;
     expect(sizeof longest - 1 == ZLATOMRUK_CARD_LENGTH, "the longest card's length");
     expect(zlatomruk_number(zlatomruk_judge((const uint8_t *)longest, sizeof longest - 1, NULL, 0)) == ZLATOMRUK_VERDICT_LENGTH, "it is read");
@@ -165,6 +168,8 @@ static void check_answers(void) {
     refused = answer_to("cs", ZLATOMRUK_BUILD_DEBUG, 24);
     expect(zlatomruk_number(refused) == ZLATOMRUK_VERDICT_CARD && zlatomruk_place(refused) == 1 && zlatomruk_slot(refused) == 0, "no such kind");
     expect(zlatomruk_number(answer_to(ZLATOMRUK_KIND_PIXEL, "release", 24)) == ZLATOMRUK_VERDICT_CARD, "no such build");
+    refused = zlatomruk_judge((const uint8_t *)of_five, sizeof of_five - 1, a_tail, sizeof a_tail / sizeof a_tail[0]);
+    expect(refused == (ZLATOMRUK_VERDICT_CLAUSE_LAYOUT | UINT64_C(1) << 16), "a tail of another clause, at quadword 1");
 }
 
 static void check_codec(void) {

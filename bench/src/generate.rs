@@ -5,12 +5,15 @@ pub mod codec;
 pub mod control;
 pub mod damage;
 pub mod fetch_codec;
+pub mod layout;
+pub mod overlap;
 pub mod pack;
 pub mod random;
 pub mod timed;
 
 use crate::plain::Kind;
 use crate::plain::card::Card;
+use layout::Layout;
 use pack::{Pack, Size};
 use random::Random;
 
@@ -28,7 +31,7 @@ pub fn case(seed: u64) -> Case {
     if random.once_in(40) {
         return noise(random);
     }
-    let mut pack = pack::pack(size(random), random);
+    let mut pack = pack::pack(size(random), Layout::any(random), random);
     let faults = random.pick(&[0, 1, 1, 1, 1, 2, 3, 8]);
     for _ in 0..faults {
         damage::pack(&mut pack, random);
@@ -56,7 +59,7 @@ fn size(random: &mut Random) -> Size {
 
 /// Random words behind a good card, few bits set or many.
 fn noise(random: &mut Random) -> Case {
-    let pack = pack::pack(Size { steps: 0, slots: 1, fetches: 1, depth: 0 }, random);
+    let pack = pack::pack(Size { steps: 0, slots: 1, fetches: 1, depth: 0 }, Layout::PLAIN, random);
     let quads = if random.once_in(20) { random.between(500, 600) } else { random.between(1, 12) };
     let thin = random.below(4);
     let words = (0..2 * quads).map(|_| (0..thin).fold(random.word(), |word, _| word & random.word())).collect();

@@ -54,7 +54,7 @@ holds "memset is all that it needs" [ "$(nm "$archive" | awk '$1 == "U" { print 
 
 # The numbers are those of docs/USING.md, and the version that of VERSION.
 sed -n 's/^ *ZLATOMRUK_VERDICT_[A-Z_]* = \([0-9]*\).*/\1/p' include/zlatomruk.h >"$work/numbers"
-holds "the header has the numbers 0 to 21" [ "$(paste -sd ' ' "$work/numbers")" = "$(seq -s ' ' 0 21)" ]
+holds "the header has the numbers 0 to 22" [ "$(paste -sd ' ' "$work/numbers")" = "$(seq -s ' ' 0 22)" ]
 holds "the header's version" grep -qx "#define ZLATOMRUK_VERSION \"$(cat VERSION)\"" include/zlatomruk.h
 holds "the header's version as a number" grep -q "^#define ZLATOMRUK_VERSION_NUMBER $(awk -F . '{ print 10000 * $1 + 100 * $2 + $3 }' VERSION) " include/zlatomruk.h
 

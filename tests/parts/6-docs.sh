@@ -15,8 +15,8 @@ sed 's/#.*//; s/:/ /' crates.txt | awk '
     NF { seen[$1] = 1; for (i = 2; i <= NF; i++) if (!($i in seen)) print $i }' | sort -u | grep -vx 'io\|os\|libc' >"$work/upward"
 holds "crates.txt: a crate builds on those above it" [ ! -s "$work/upward" ]
 
-# The numbers 0 to 19 and their places in USING.md, and the newest landing's version.
-holds "docs/USING.md: the numbers 0 to 19" [ "$(sed -n 's/^| \([0-9]*\) | .* | .* | .*/\1/p' docs/USING.md | head -n 20 | paste -sd ' ' -)" = "$(seq -s ' ' 0 19)" ]
+# The judge's numbers, 0 to 19 and 22, and their places in USING.md, and the newest landing's version.
+holds "docs/USING.md: the numbers 0 to 19, and 22" [ "$(sed -n 's/^| \([0-9]*\) | .* | .* | .*/\1/p' docs/USING.md | head -n 21 | paste -sd ' ' -)" = "$(seq -s ' ' 0 19) 22" ]
 holds "CHANGELOG.md begins with this version" sh -c "grep -m 1 '^## ' CHANGELOG.md | grep -qF '$(cat VERSION)'"
 holds "README has this version" grep -qF "version $(cat VERSION)" README.md
 

@@ -50,16 +50,16 @@ explains "a debug build that is accepted" 0 ./explain examples/debug-build.card 
 
 # The rules' words: each of the definition's stands beside its number in an example and in docs/USING.md, and no other.
 sed -n 's/^.*(\([0-9]*\), "\([a-z-]*\)").*/\1 \2/p' crates/report/specs/Explanation.antt >"$work/words"
-awk -F = '$1 == "verdict" { number = $2 } $1 == "rule" { print number, $2 }' examples/*.explain | sort -n >"$work/words_shown"
+awk -F = '$1 == "verdict" { number = $2 } $1 == "rule" { print number, $2 }' examples/*.explain | sort -u | sort -n >"$work/words_shown"
 sed -n 's/^| \([0-9]*\) | `\([^`]*\)` |.*/\1 \2/p' docs/USING.md >"$work/words_told"
-holds "the definition has words for 1 to 19" [ "$(cut -d ' ' -f 1 "$work/words" | paste -sd ' ' -)" = "$(seq -s ' ' 1 19)" ]
+holds "the definition has words for 1 to 19, and 22" [ "$(cut -d ' ' -f 1 "$work/words" | paste -sd ' ' -)" = "$(seq -s ' ' 1 19) 22" ]
 holds "the examples have the rules' words" cmp -s "$work/words" "$work/words_shown"
 holds "docs/USING.md has the rules' words" cmp -s "$work/words" "$work/words_told"
 
 # The packs that docs/USING.md goes through, the first as a session.
 sed -n '/^## Why a pack/,/\$ echo/s/^    \([a-z]*=.*\)/\1/p' docs/USING.md >"$work/session"
 holds "docs/USING.md: the session" cmp -s "$work/session" $refused.explain
-for name in fetch-into-a-register-not-granted jump-keeps-its-frame; do
+for name in fetch-into-a-register-not-granted jump-keeps-its-frame clauses-sharing-a-tail; do
     holds "docs/USING.md: $name" grep -qF "\`$name\`: $(paste -sd , "examples/$name.explain" | sed 's/,/, /g')." docs/USING.md
 done
 

@@ -36,15 +36,7 @@ tells() {
     if [ ! -s "$work/out" ] && [ "$(cat "$work/err")" = "$message" ]; then pass; else flunk "$what: '$(cat "$work/err")', not '$message'"; fi
 }
 
-# bytes WORD..: words of eight hexadecimal digits as a pack has them.
-bytes() {
-    for word; do
-        # shellcheck disable=SC2059 # the format is the bytes
-        printf "$(printf '\\%03o\\%03o\\%03o\\%03o' $((0x$word & 255)) $((0x$word >> 8 & 255)) $((0x$word >> 16 & 255)) $((0x$word >> 24)))"
-    done
-}
-
-# The same words read again, a line.
+# A pack's words as `bytes` takes them, a line.
 words() {
     od -An -v -tx4 --endian=little "$1" | tr -d '\n' | tr a-f A-F | sed 's/^ //'
 }
@@ -333,7 +325,7 @@ for message in \
     "quadword 2: VTX does not take number 16|VTX 2 $pack" \
     "quadword 2: VTX_TC does not take number 16|vtx_tc 2 $pack" \
     "quadword 1: TEX does not take number 0|TEX 1 $pack" \
-    "quadword 3: VTX does not take number 2|VTX 3 examples/unknown-fetch.pack" \
+    "quadword 4: VTX does not take number 2|VTX 4 examples/unknown-fetch.pack" \
     "quadword 0: its fourth word is not 0|TEX 0 $pack" \
     "OFFSET_Q=1: no such field|TEX 2 $pack OFFSET_Q=1" \
     "offset_x=1: no such field|TEX 2 $pack offset_x=1" \

@@ -7,12 +7,14 @@ use std::process::exit;
 use zlatomruk_bench::{generate, plain, proved};
 
 const SHOWN: usize = 5;
+/// The numbers that a judge gives; those between are the encoder's.
+const NUMBERS: [usize; 21] = [0, 1, 2, 3, 4, 5, 6, 7, 8, 9, 10, 11, 12, 13, 14, 15, 16, 17, 18, 19, 22];
 
 fn main() {
     let mut arguments = env::args().skip(1).map(|text| text.parse::<u64>().expect("a number"));
     let cases = arguments.next().unwrap_or(1_000_000);
     let first = arguments.next().unwrap_or(0);
-    let mut histogram = [0u64; 20];
+    let mut histogram = [0u64; 23];
     let mut differences = 0;
     for seed in first..first + cases {
         let case = generate::case(seed);
@@ -31,10 +33,10 @@ fn main() {
         histogram[ours.0 as usize] += 1;
     }
     println!("{cases} cases, {differences} differences; number: cases");
-    for (number, count) in histogram.iter().enumerate() {
-        println!("  {number:2}: {count}");
+    for number in NUMBERS {
+        println!("  {number:2}: {}", histogram[number]);
     }
-    let missing = histogram.contains(&0);
+    let missing = NUMBERS.iter().any(|&number| histogram[number] == 0);
     if missing {
         println!("not every number occurred");
     }

@@ -1,10 +1,10 @@
-//! Both judges, timed in one run on the packs of `generate::timed`, or on those that the arguments name: mixed, pairs, openers, copy, or a file with a
-//! card and a pack, one behind the other.
+//! Both judges, timed in one run on the packs of `generate::timed`, or on those that the arguments name: mixed, pairs, openers, rising, falling, same,
+//! copy, or a file with a card and a pack, one behind the other.
 
 use std::env;
 use std::hint::black_box;
 
-use zlatomruk_bench::generate::timed::{Input, named_or_read};
+use zlatomruk_bench::generate::timed::{Input, NAMES, named_or_read};
 use zlatomruk_bench::mixture::Mixture;
 use zlatomruk_bench::plain::judge::Answer;
 use zlatomruk_bench::{plain, proved, tally, timing};
@@ -15,7 +15,7 @@ type Judge = fn(&[u8], &[u32]) -> Answer;
 
 fn main() {
     let arguments: Vec<String> = env::args().skip(1).collect();
-    let all = ["mixed", "pairs", "openers", "copy"].map(String::from);
+    let all = NAMES.map(String::from);
     for name in if arguments.is_empty() { all.as_slice() } else { &arguments } {
         let input = named_or_read(name).unwrap_or_else(|| tally::fail(&format!("no pack or readable file {name}")));
         match name.as_str() {
@@ -23,12 +23,19 @@ fn main() {
                 let number = Mixture::of(&input.1).instructions;
                 both_states("mixed pack, 8,192 quadwords, 512 pairs", &input, number, "an ALU instruction");
             }
-            "pairs" => both_states("512 mixed pairs, shortest clauses", &input, Mixture::of(&input.1).pairs, "a pair"),
+            "pairs" => pair_by_pair("512 mixed pairs, shortest clauses", &input),
+            "rising" => pair_by_pair("512 openers, clauses in their order", &input),
+            "falling" => pair_by_pair("512 openers, clauses the other way round", &input),
+            "same" => pair_by_pair("512 openers of one fetch", &input),
             "openers" => over_and_over("511 openers of one 128-slot clause", &input, 4, None),
             "copy" => over_and_over("copy pack", &input, 2000, None),
             file => both_states(file, &input, Mixture::of(&input.1).instructions.max(1), "an ALU instruction"),
         }
     }
+}
+
+fn pair_by_pair(name: &str, input: &Input) {
+    both_states(name, input, Mixture::of(&input.1).pairs, "a pair");
 }
 
 fn both_states(name: &str, input: &Input, number: usize, to: &str) {

@@ -11,7 +11,7 @@ fn main() {
         eprintln!("usage: plain_vectors FOLDER");
         exit(2);
     };
-    let mut histogram = [0; 20];
+    let mut histogram = [0; 23];
     let mut wrong = 0;
     let mut paths: Vec<_> = fs::read_dir(&folder).expect("the folder").map(|entry| entry.expect("an entry").path()).collect();
     paths.sort();

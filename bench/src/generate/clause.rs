@@ -231,3 +231,32 @@ fn group(count: usize, literals: usize, special: Special, setting: &Setting, ran
     }
     words.extend((0..2 * literals).map(|_| random.word()));
 }
+
+/// A clause that is accepted both as ALU slots, by whatever opener, and as so many fetches. Each fetch is a group of one instruction and a literal
+/// quadword: what one reads as a relative bit or a number is an odd number, a channel or a source to the other.
+pub fn both_ways(fetches: usize, texture: bool, setting: &Setting, random: &mut Random) -> Vec<u32> {
+    let odd = |numbers: &[u32]| -> Vec<u32> { numbers.iter().copied().filter(|number| number % 2 == 1).collect() };
+    let (any, setters) = (odd(ANY), odd(SETTERS));
+    // Exactly one, as PUSH_BEFORE needs it.
+    let setter_at = random.below(fetches);
+    let mut words = Vec::with_capacity(4 * fetches);
+    for index in 0..fetches {
+        // Bit 7 of the high word, a fetch's relative bit of the destination, is the lowest of an OP2 number.
+        let number = random.pick(if index == setter_at { &setters } else { &any });
+        let plan = Plan { op3: false, number, channel: random.word() & 3, unit: Unit::Vector };
+        let [low, high] = plan.words(fetch_sources(texture, setting, random), 0, false, setting, random);
+        words.extend([low | 1 << 31, high, random.word(), 0]);
+    }
+    words
+}
+
+/// Sources of such an instruction, the third unread, one of them a literal X or Y. The lowest bits of the first are the fetch's number; the second's
+/// channel is Y or W, which is the relative bit of the fetch's source.
+fn fetch_sources(texture: bool, setting: &Setting, random: &mut Random) -> [u32; 3] {
+    let (first, second) = if texture {
+        (253 | (random.word() & 1) << 10, source(setting, false, random)) // 253 ends in 29, a texture fetch
+    } else {
+        (random.below(setting.gprs.min(2) as usize) as u32, 253)
+    };
+    [first, second | 1 << 10, 0]
+}

@@ -1,12 +1,13 @@
 //! Aimed damage: small changes, each meant for one rule, though it may well break another or none.
 
 use super::control::{self, ELSE, JUMP, LOOP_BREAK, LOOP_CONTINUE, LOOP_END, LOOP_START, POP};
+use super::overlap;
 use super::pack::Pack;
 use super::random::Random;
 use crate::plain::Kind;
 
 /// Replaces the bits `high:low` of a word.
-fn set(word: &mut u32, high: u32, low: u32, value: u32) {
+pub fn set(word: &mut u32, high: u32, low: u32, value: u32) {
     let mask = (u32::MAX >> (31 - (high - low))) << low;
     *word = *word & !mask | value << low & mask;
 }
@@ -22,7 +23,7 @@ fn close_to(near: usize, random: &mut Random) -> u32 {
 
 /// Damages a pack in one way.
 pub fn pack(pack: &mut Pack, random: &mut Random) {
-    match random.below(24) {
+    match random.below(28) {
         0 => figures(pack, random),
         1 => length(pack, random),
         2 => ends(pack, random),
@@ -36,6 +37,7 @@ pub fn pack(pack: &mut Pack, random: &mut Random) {
         13..=15 => exports(pack, random),
         16..=18 => clause_part(pack, random, false),
         19..=22 => clause_part(pack, random, true),
+        23..=26 => overlap::pack(pack, random),
         _ => reorder(pack, random),
     }
 }
@@ -135,7 +137,7 @@ fn openers(pack: &mut Pack, random: &mut Random) {
         0 => set(high, 12, 10, random.word()),
         1 if opens_alu => set(high, 24, 18, (*high >> 18) + 1),
         1 => *high ^= 1 << 19,
-        2 if !others.is_empty() => set(low, 21, 0, random.pick(&others) as u32), // clauses may overlap
+        2 if !others.is_empty() => set(low, 21, 0, random.pick(&others) as u32), // the same range, if as long
         _ if opens_alu => set(low, 21, 0, close_to(around, random)),
         _ => *low = close_to(around, random),
     }

@@ -1,11 +1,14 @@
 //! Whole packs that are accepted, by construction: first the steps along "no", then targets that carry the right stack,
 //! then the clauses.
 
-use super::clause::{Setting, clause};
 use super::control::{self, ELSE, JUMP, LOOP_BREAK, LOOP_CONTINUE, LOOP_END, LOOP_START, NOP, POP, TEX, VTX, VTX_TC};
+use super::layout::{Clauses, Layout};
 use super::random::Random;
 use crate::plain::Kind;
 use crate::plain::card::Card;
+
+/// A pack has at most so many quadwords.
+pub const QUADS: usize = 8192;
 
 /// A pack and where its parts lie (in quadwords), so that damage can be aimed.
 #[derive(Clone)]
@@ -54,6 +57,8 @@ fn masks(stack: &[Frame]) -> usize {
 }
 
 impl Course {
+    const EMPTY: Course = Course { steps: Vec::new(), before: Vec::new(), stack: Vec::new() };
+
     fn take(&mut self, step: Step) {
         let position = self.steps.len();
         self.steps.push(step);
@@ -71,7 +76,7 @@ impl Course {
     }
 
     fn random(size: Size, random: &mut Random) -> Self {
-        let mut course = Course { steps: Vec::new(), before: Vec::new(), stack: Vec::new() };
+        let mut course = Course::EMPTY;
         while course.steps.len() < size.steps {
             let masks = masks(&course.stack);
             let in_loop = course.stack.len() > masks;
@@ -158,68 +163,50 @@ fn card(random: &mut Random) -> Card {
 
 /// A pack that every rule lets pass, unless its section gets longer than 512 pairs; `size` must not be so large that it
 /// could exceed 8,192 quadwords.
-pub fn pack(size: Size, random: &mut Random) -> Pack {
+pub fn pack(size: Size, layout: Layout, random: &mut Random) -> Pack {
     let card = card(random);
-    pack_for(card, size, random)
+    pack_for(card, size, layout, random)
 }
 
 /// The same for a card; its stack and quads are filled in.
-pub fn pack_for(card: Card, size: Size, random: &mut Random) -> Pack {
-    let course = Course::random(size, random);
-    let end = course.steps.len() - 1;
-    let mut pack = Pack { card, words: vec![0; 2 * (end + 1)], end, alu: Vec::new(), fetches: Vec::new() };
-    for (position, &step) in course.steps.iter().enumerate() {
-        let pair = match step {
-            Step::Plain => control::pair(NOP, random.word(), random.word() & 7, 0, random),
-            Step::Export => control::export(&card, random).unwrap_or_else(|| control::pair(NOP, 0, 0, 0, random)),
-            Step::Fetch(number) => pack.fetch_clause(number, size, random),
-            Step::Alu(number) => pack.alu_clause(number, size, random),
-            Step::Pop(_) | Step::Branch(_) => {
-                let (target, pops) = course.target(position, random);
-                let number = if let Step::Branch(number) = step { number } else { POP };
-                // Loop starts and ends don't read POP_COUNT.
-                let pops = if matches!(number, LOOP_START | LOOP_END) { random.word() & 7 } else { pops as u32 };
-                control::pair(number, target as u32, pops, 0, random)
-            }
-        };
-        pack.words[2 * position..2 * position + 2].copy_from_slice(&pair);
-    }
-    pack.words[2 * end + 1] |= 1 << 21;
-    let deepest = course.before.iter().map(Vec::len).max().unwrap_or(0);
-    pack.card.stack = random.between(deepest, (deepest + 2).min(32)) as u32;
-    pack.card.quads = (pack.words.len() / 2) as u32;
-    pack
+pub fn pack_for(card: Card, size: Size, layout: Layout, random: &mut Random) -> Pack {
+    Course::random(size, random).pack(card, size, layout, random)
 }
 
-impl Pack {
-    /// Now and then a few words that nothing opens.
-    fn gap(&mut self, random: &mut Random) -> usize {
-        if random.once_in(8) {
-            self.words.extend([random.word(), random.word()]);
-        }
-        self.words.len() / 2
-    }
+/// The same, all pairs openers of ALU clauses but for the last: no end opens one, so that opens fetches.
+pub fn openers_for(card: Card, size: Size, layout: Layout, random: &mut Random) -> Pack {
+    let mut course = Course::EMPTY;
+    (1..size.steps).for_each(|_| course.take(Step::Alu(8)));
+    course.take(Step::Fetch(TEX));
+    course.pack(card, size, layout, random)
+}
 
-    fn fetch_clause(&mut self, number: u32, size: Size, random: &mut Random) -> [u32; 2] {
-        let start = self.gap(random);
-        let count = random.between(1, size.fetches.min(16));
-        for _ in 0..count {
-            self.words.extend(control::fetch(number, self.card.gprs, random));
+impl Course {
+    fn pack(&self, card: Card, size: Size, layout: Layout, random: &mut Random) -> Pack {
+        let end = self.steps.len() - 1;
+        let mut clauses = Clauses::new(card, size, layout);
+        let mut words = Vec::with_capacity(2 * (end + 1));
+        for (position, &step) in self.steps.iter().enumerate() {
+            words.extend(match step {
+                Step::Plain => control::pair(NOP, random.word(), random.word() & 7, 0, random),
+                Step::Export => control::export(&card, random).unwrap_or_else(|| control::pair(NOP, 0, 0, 0, random)),
+                Step::Fetch(number) => clauses.open_fetches(position, number, random),
+                Step::Alu(number) => clauses.open_alu(position, number, random),
+                Step::Pop(_) | Step::Branch(_) => {
+                    let (target, pops) = self.target(position, random);
+                    let number = if let Step::Branch(number) = step { number } else { POP };
+                    // Loop starts and ends don't read POP_COUNT.
+                    let pops = if matches!(number, LOOP_START | LOOP_END) { random.word() & 7 } else { pops as u32 };
+                    control::pair(number, target as u32, pops, 0, random)
+                }
+            });
         }
-        self.fetches.push((start, 2 * count));
-        control::pair(number, start as u32, random.word() & 7, count as u32 - 1, random)
-    }
-
-    fn alu_clause(&mut self, number: u32, size: Size, random: &mut Random) -> [u32; 2] {
-        let Card { kind, gprs, temps, consts, .. } = self.card;
-        let (mode0, mode1) = (random.word() & 3, random.word() & 3);
-        let setting = Setting { kind, push_before: number == 9, gprs, temps, consts, mode0, mode1 };
-        let start = self.gap(random);
-        // Short ones more often than long ones, as in shaders.
-        let most = if random.once_in(2) { size.slots } else { size.slots.div_ceil(4) };
-        let slots = random.between(1, most.min(128));
-        self.words.extend(clause(slots, &setting, random));
-        self.alu.push((start, slots));
-        control::alu(number, start, slots, mode0, mode1, random)
+        words[2 * end + 1] |= 1 << 21;
+        let mut pack = Pack { card, words, end, alu: Vec::new(), fetches: Vec::new() };
+        clauses.lay_out(&mut pack, random);
+        let deepest = self.before.iter().map(Vec::len).max().unwrap_or(0);
+        pack.card.stack = random.between(deepest, (deepest + 2).min(32)) as u32;
+        pack.card.quads = (pack.words.len() / 2) as u32;
+        pack
     }
 }

@@ -4,8 +4,9 @@ use std::fs;
 
 use super::card_text;
 use super::clause::{Setting, clause};
-use super::control;
-use super::pack::{Pack, Size, pack_for};
+use super::control::{self, VTX, VTX_TC};
+use super::layout::{Layout, Order};
+use super::pack::{Pack, QUADS, Size, openers_for, pack_for};
 use super::random::Random;
 use crate::plain::Kind;
 use crate::plain::card::Card;
@@ -13,16 +14,23 @@ use crate::plain::card::Card;
 /// A card's bytes and a pack's words.
 pub type Input = (Vec<u8>, Vec<u32>);
 
-const QUADS: usize = 8192;
 const PAIRS: usize = 512;
 const SLOTS: usize = 128;
 
+/// A grant of every sort; ps, since only there kills may stand.
+const GENEROUS: Card = Card { kind: Kind::Pixel, production: true, gprs: 100, temps: 4, consts: 256, stack: 0, quads: 0 };
+
 /// The names that the programs and scripts know them by.
+pub const NAMES: [&str; 7] = ["mixed", "pairs", "openers", "rising", "falling", "same", "copy"];
+
 pub fn named(name: &str) -> Option<Input> {
     match name {
         "mixed" => Some(mixed()),
         "pairs" => Some(pairs()),
         "openers" => Some(openers()),
+        "rising" => Some(short_clauses(Order::Rising)),
+        "falling" => Some(short_clauses(Order::Falling)),
+        "same" => Some(same()),
         "copy" => Some(copy_pack()),
         _ => None,
     }
@@ -53,10 +61,8 @@ pub fn pairs() -> Input {
 /// A generated pack with a full section. Packs come out in all sizes, so seeds are tried until one is as wanted; what is left is filled with words
 /// that nothing opens.
 fn full(size: Size, wanted: fn(&Pack) -> bool) -> Input {
-    // A grant of every sort; ps, since only there kills may stand.
-    let card = Card { kind: Kind::Pixel, production: true, gprs: 100, temps: 4, consts: 256, stack: 0, quads: 0 };
     let mut pack = (0..)
-        .map(|seed| pack_for(card, size, &mut Random::new(seed)))
+        .map(|seed| pack_for(GENEROUS, size, Layout::PLAIN, &mut Random::new(seed)))
         .find(|pack| pack.end == PAIRS - 1 && pack.words.len() <= 2 * QUADS && wanted(pack))
         .expect("one of all seeds");
     pack.words.resize(2 * QUADS, 0);
@@ -79,6 +85,28 @@ pub fn openers() -> Input {
     (card_text(&card), words)
 }
 
+/// As many openers as there may be, each of a clause of its own, which lie in the order of the openers or the other way round. The clauses are the same
+/// in both, and short, so that it shows what rule 22 takes. The last one is of fetches: an opener of ALU slots is no end.
+fn short_clauses(order: Order) -> Input {
+    let size = Size { steps: PAIRS, slots: 8, fetches: 1, depth: 0 };
+    let pack = openers_for(GENEROUS, size, Layout { order, ..Layout::PLAIN }, &mut Random::new(22));
+    (card_text(&pack.card), pack.words)
+}
+
+/// As many openers of one clause, a single fetch.
+pub fn same() -> Input {
+    let random = &mut Random::new(22);
+    let mut words = Vec::new();
+    for _ in 0..PAIRS {
+        let number = random.pick(&[VTX, VTX_TC]);
+        words.extend(control::pair(number, PAIRS as u32, 0, 0, random));
+    }
+    words[2 * PAIRS - 1] |= 1 << 21;
+    words.extend(control::fetch(VTX, GENEROUS.gprs, random));
+    let card = Card { quads: (words.len() / 2) as u32, ..GENEROUS };
+    (card_text(&card), words)
+}
+
 /// Document 01's copy pack.
 pub fn copy_pack() -> Input {
     let card = Card { kind: Kind::Pixel, production: true, gprs: 2, temps: 0, consts: 0, stack: 0, quads: 3 };
@@ -89,6 +117,7 @@ pub fn copy_pack() -> Input {
 mod tests {
     use super::*;
     use crate::mixture::Mixture;
+    use crate::plain::control::{Control, Extent};
     use crate::plain::{judge, opcodes};
 
     fn mixture((card, words): Input) -> Mixture {
@@ -147,5 +176,42 @@ mod tests {
         let mixture = mixture(pairs());
         assert_eq!(mixture.clauses(), mixture.alu_clauses[1] + mixture.fetch_clauses[1]);
         assert!(mixture.alu_clauses[1] > 100 && mixture.fetch_clauses[1] > 10);
+    }
+    #[test]
+    fn every_name_is_known_and_its_pack_accepted() {
+        for name in NAMES {
+            let (card, words) = named(name).expect(name);
+            assert_eq!(judge(&card, &words), (0, 0, 0), "{name}");
+        }
+    }
+
+    /// All pairs of such a pack are openers: the clause of each, and what they hold together.
+    fn clauses(name: &str) -> (Vec<Extent>, Mixture) {
+        let (_, words) = named(name).expect(name);
+        let mixture = Mixture::of(&words);
+        assert_eq!((mixture.pairs, mixture.clauses()), (PAIRS, PAIRS), "{name}");
+        let pairs = words.as_chunks::<2>().0[..PAIRS].iter();
+        (pairs.map(|&pair| Control::new(pair).clause().expect("an opener")).collect(), mixture)
+    }
+
+    #[test]
+    fn clauses_rise_or_fall() {
+        let ((rising, mixture), (falling, _)) = (clauses("rising"), clauses("falling"));
+        assert!(rising.windows(2).all(|two| two[0].end() <= two[1].start));
+        assert!(falling.windows(2).all(|two| two[1].end() <= two[0].start));
+        let lengths = |clauses: &[Extent]| clauses.iter().map(|clause| clause.length).collect::<Vec<_>>();
+        assert_eq!(lengths(&rising), lengths(&falling));
+        // One of fetches, all others of up to 8 slots.
+        assert_eq!(mixture.fetch_clauses[1], 1);
+        assert_eq!(mixture.alu_clauses[1..=8].iter().sum::<usize>(), PAIRS - 1);
+        assert!(mixture.alu_clauses[1..=8].iter().all(|&count| count > 10), "{:?}", mixture.alu_clauses);
+        assert!(mixture.literals.iter().chain(&mixture.without_trans[1..5]).all(|&count| count > 10), "{mixture:?}");
+    }
+
+    #[test]
+    fn clauses_are_the_same() {
+        let (same, mixture) = clauses("same");
+        assert!(same.iter().all(|&clause| clause == Extent { start: PAIRS, length: 2 }));
+        assert_eq!(mixture.fetch_clauses[1], PAIRS);
     }
 }

@@ -116,7 +116,7 @@ static NUMBERS: [Number; 128] = {
 };
 
 /// Clause that a pair opens: its first quadword and its length in quadwords.
-#[derive(Clone, Copy)]
+#[derive(Clone, Copy, PartialEq, Eq, Debug)]
 pub struct Extent {
     pub start: usize,
     pub length: usize,
@@ -201,6 +201,13 @@ impl Control {
         Extent { start: self.low as usize, length: 2 * ((self.high >> 10 & 7 | self.high >> 16 & 8) as usize + 1) }
     }
 
+    /// The clause that a pair opens, if it opens one.
+    #[inline]
+    pub fn clause(self) -> Option<Extent> {
+        let number = self.number();
+        if number.is(OPENS_ALU) { Some(self.alu_clause()) } else { number.is(OPENS_FETCHES).then(|| self.fetch_clause()) }
+    }
+
     /// Rule 7 on an export.
     pub fn rule_7(self, card: &Card) -> bool {
         let burst = self.high >> 17 & 15;
@@ -220,10 +227,15 @@ impl Control {
 }
 
 impl Extent {
-    /// The clause's pairs, if it keeps rule 6: behind the section that ends with `end`, and inside the pairs. ADDR has at most 32 bits and the sum is
-    /// made in 64, so that it can't wrap.
+    /// The first quadword behind it. ADDR has at most 32 bits and the sum is made in 64, so that it can't wrap.
+    #[inline]
+    pub fn end(self) -> usize {
+        self.start + self.length
+    }
+
+    /// The clause's pairs, if it keeps rule 6: behind the section that ends with `end`, and inside the pairs.
     #[inline]
     pub fn within(self, pairs: &[[u32; 2]], end: usize) -> Option<&[[u32; 2]]> {
-        if self.start <= end { None } else { pairs.get(self.start..self.start + self.length) }
+        if self.start <= end { None } else { pairs.get(self.start..self.end()) }
     }
 }

@@ -86,8 +86,8 @@ fn the_short_form_is_the_stack() {
     for seed in 0..60_000 {
         let case = generate::case(seed);
         let answer = judge(&case.card, &case.words);
-        // A lower number may stand before any fault of the flow.
-        if answer.0 == 0 || answer.0 >= 16 {
+        // Another number may stand before any fault of the flow.
+        if matches!(answer.0, 0 | 16..=19) {
             let limit = card::parse(&case.card).expect("a good card").stack as usize;
             assert_eq!((answer.0, answer.1), flow(&case.words, limit), "seed {seed}");
             seen[answer.0 as usize] += 1;

@@ -1,6 +1,7 @@
 //! The order of the rules: card, length, end, then the two passes.
 
 use super::alu;
+use super::apart::{self, Opened, Order};
 use super::card::{self, Card};
 use super::control::{BRANCH, Control, OPENS_ALU, OPENS_FETCHES, Op};
 use super::fetches;
@@ -51,11 +52,12 @@ fn rule_3(pairs: &[[u32; 2]]) -> Option<usize> {
     None
 }
 
-/// Whether rules 6 to 15, 18 and 19 are kept, where all others are: each number is asked only what goes for it. Order is no matter here, so both passes
-/// are one.
+/// Whether rules 6 to 15, 18, 19 and 22 are kept, where all others are: each number is asked only what goes for it. Order is no matter here, so both
+/// passes are one.
 fn keeps_all_rules(card: &Card, pairs: &[[u32; 2]], section: &Section) -> bool {
     let end = section.pairs.len() - 1;
     let mut grants = Grants::new(card.gprs, card.temps, card.consts);
+    let mut order = Order::NEW;
     for (position, &pair) in section.pairs.iter().enumerate() {
         let control = Control::new(pair);
         let number = control.number();
@@ -65,13 +67,16 @@ fn keeps_all_rules(card: &Card, pairs: &[[u32; 2]], section: &Section) -> bool {
         } else if number.is(OPENS_ALU) {
             let (mode0, mode1) = control.modes();
             grants.lock(mode0, mode1);
-            control
-                .alu_clause()
-                .within(pairs, end)
-                .is_some_and(|clause| alu::keeps_all_rules(clause, number.op == Some(Op::PushBefore), card.kind, &grants))
+            let clause = control.alu_clause();
+            order.open(clause);
+            let push_before = number.op == Some(Op::PushBefore);
+            clause.within(pairs, end).is_some_and(|slots| alu::keeps_all_rules(slots, push_before, card.kind, &grants))
         } else if number.is(OPENS_FETCHES) {
-            let clause = control.fetch_clause().within(pairs, end);
-            clause.is_some_and(|clause| fetches::fetch_rules(clause, number.op == Some(Op::Tex), card.gprs).is_ok())
+            let clause = control.fetch_clause();
+            order.open(clause);
+            let texture = number.op == Some(Op::Tex);
+            let keeps_rules = |fetches| !apart::starts_odd(clause) && fetches::fetch_rules(fetches, texture, card.gprs).is_ok();
+            clause.within(pairs, end).is_some_and(keeps_rules)
         } else {
             number.op != Some(Op::Export) || !control.rule_7(card)
         };
@@ -79,24 +84,34 @@ fn keeps_all_rules(card: &Card, pairs: &[[u32; 2]], section: &Section) -> bool {
             return false;
         }
     }
-    true
+    !order.is_left() || apart::all_apart(section.pairs, pairs.len())
 }
 
-/// Rules 6 to 15 on a pair and its clause: number and slot of the first fault.
-fn rules_6_to_15(card: &Card, pairs: &[[u32; 2]], end: usize, control: Control, grants: &mut Grants) -> Result<(), (u32, usize)> {
+/// Rules 6, 22 and 7 to 15 on a pair and its clause, in this order: number and slot of the first fault.
+fn rules_6_to_15(
+    card: &Card, pairs: &[[u32; 2]], end: usize, control: Control, opened: &mut Opened, grants: &mut Grants,
+) -> Result<(), (u32, usize)> {
     match control.op() {
         Some(op @ (Op::Alu | Op::PushBefore | Op::PopAfter | Op::Pop2After)) => {
-            let clause = control.alu_clause().within(pairs, end).ok_or((6, 0))?;
+            let clause = control.alu_clause();
+            let slots = clause.within(pairs, end).ok_or((6, 0))?;
+            if opened.half_shares(clause) {
+                return Err((22, 0));
+            }
             let (mode0, mode1) = control.modes();
             grants.lock(mode0, mode1);
-            match alu::clause_rules(clause, op == Op::PushBefore, card.kind, grants) {
+            match alu::clause_rules(slots, op == Op::PushBefore, card.kind, grants) {
                 (0, _) => Ok(()),
                 fault => Err(fault),
             }
         }
         Some(op @ (Op::Tex | Op::Vtx | Op::VtxTc)) => {
-            let clause = control.fetch_clause().within(pairs, end).ok_or((6, 0))?;
-            fetches::fetch_rules(clause, op == Op::Tex, card.gprs)
+            let clause = control.fetch_clause();
+            let fetches = clause.within(pairs, end).ok_or((6, 0))?;
+            if apart::starts_odd(clause) || opened.half_shares(clause) {
+                return Err((22, 0));
+            }
+            fetches::fetch_rules(fetches, op == Op::Tex, card.gprs)
         }
         Some(Op::Export) if control.rule_7(card) => Err((7, 0)),
         _ => Ok(()),
@@ -108,6 +123,7 @@ fn rules_6_to_15(card: &Card, pairs: &[[u32; 2]], end: usize, control: Control, 
 fn first_fault(card: &Card, pairs: &[[u32; 2]], section: &Section) -> Result<(), Answer> {
     let end = section.pairs.len() - 1;
     let mut grants = Grants::new(card.gprs, card.temps, card.consts);
+    let mut opened = Opened::none(pairs.len());
     for (position, &pair) in section.pairs.iter().enumerate() {
         let control = Control::new(pair);
         if control.op().is_none() {
@@ -116,7 +132,7 @@ fn first_fault(card: &Card, pairs: &[[u32; 2]], section: &Section) -> Result<(),
         if control.rule_5(control.number()) {
             return Err((5, position, 0));
         }
-        rules_6_to_15(card, pairs, end, control, &mut grants).map_err(|(number, slot)| (number, position, slot))?;
+        rules_6_to_15(card, pairs, end, control, &mut opened, &mut grants).map_err(|(number, slot)| (number, position, slot))?;
         if section.walk.rule_16(position) {
             return Err((16, position, 0));
         }
@@ -174,5 +190,48 @@ mod tests {
         let pack = |back| [[2, 0x0300_0000], [back, 0x0280_0000], [0, 0x0020_0000]];
         assert_eq!(judged(1, 1, &pack(1)), (0, 0, 0));
         assert_eq!(judged(1, 1, &pack(0)), (19, 1, 0));
+    }
+    /// Rule 22. Behind these openers and an end lie quadwords that are an ADD each, and any two of them a texture fetch.
+    fn opened(openers: &[[u32; 2]]) -> Answer {
+        let mut pairs = openers.to_vec();
+        pairs.push([0, 0x0020_0000]);
+        pairs.resize(16, [0x8000_0010, 0]);
+        judged(17, 0, &pairs)
+    }
+
+    fn alu(start: u32, slots: u32) -> [u32; 2] {
+        [start, 0x2000_0000 | (slots - 1) << 18]
+    }
+
+    fn tex(start: u32, fetches: u32) -> [u32; 2] {
+        [start, 0x0080_0000 | (fetches - 1) << 10]
+    }
+
+    #[test]
+    fn clauses_that_touch_or_are_the_same() {
+        assert_eq!(opened(&[alu(6, 2), alu(8, 1), alu(6, 2)]), (0, 0, 0));
+        assert_eq!(opened(&[tex(8, 2), alu(8, 4), alu(7, 1)]), (0, 0, 0));
+        assert_eq!(opened(&[alu(10, 2), alu(8, 2), tex(6, 1)]), (0, 0, 0));
+    }
+
+    #[test]
+    fn clauses_at_odd_quadwords_or_half_shared() {
+        assert_eq!(opened(&[tex(7, 1)]), (22, 0, 0));
+        assert_eq!(opened(&[alu(6, 3), alu(8, 1)]), (22, 1, 0));
+        assert_eq!(opened(&[alu(6, 3), alu(10, 1), alu(12, 2), alu(8, 1)]), (22, 3, 0));
+        assert_eq!(opened(&[alu(6, 3), alu(6, 2)]), (22, 1, 0));
+        assert_eq!(opened(&[alu(7, 2), tex(6, 2)]), (22, 1, 0));
+        assert_eq!(opened(&[alu(9, 2), alu(8, 4)]), (22, 1, 0));
+    }
+
+    /// Behind rule 6 and before 8 to 15 of its own position, and behind all of earlier ones.
+    #[test]
+    fn where_rule_22_stands() {
+        let vtx = |start| [start, 0x0100_0000];
+        assert_eq!(opened(&[vtx(6)]), (8, 0, 0));
+        assert_eq!(opened(&[vtx(7)]), (22, 0, 0));
+        assert_eq!(opened(&[vtx(15)]), (6, 0, 0));
+        assert_eq!(opened(&[vtx(6), tex(7, 1)]), (8, 0, 0));
+        assert_eq!(opened(&[tex(7, 1), vtx(6)]), (22, 0, 0));
     }
 }

@@ -1,6 +1,7 @@
-//! The judge once more, from document 01 and AMD's guide alone, in plain Rust.
+//! The judge once more, from documents 01 and 02 and AMD's guide alone, in plain Rust.
 
 pub mod alu;
+pub mod apart;
 pub mod card;
 pub mod codec;
 pub mod control;

@@ -29,6 +29,7 @@ use Rattle.section.specs.declared.Clause.{Clause}
 use Rattle.section.specs.declared.Clause.the-variants.{NoClause, AluClause, FetchClause}
 use Rattle.section.specs.Control.{endOf}
 use Rattle.section.specs.Rules.{clauseAt}
+use Rattle.apart.specs.Apart.{sharedChecks, layoutChecks}
 use Rattle.walk.specs.Rules.{stackChecks, secondChecks}
 use Rattle.judge.specs.Judge.{lineChecks, limitsWith, limitsIn, clauseChecks, rangeChecks, insideChecks, pairChecks, firstChecks, passes, checks}
 use Rattle.explain.specs.Explain.{asksNames, namedIn}
@@ -149,10 +150,15 @@ module _ (card : Card) (w : List ℕ) where
     in-clause (FetchClause s n kind) k = in-fetches s n kind k
 
     in-first : Each AsksNames (firstChecks card w (endOf w) p)
-    unfolding firstChecks pairChecks rangeChecks insideChecks stackChecks
+    unfolding firstChecks pairChecks rangeChecks layoutChecks sharedChecks insideChecks stackChecks
     in-first =
         other 4 refl
-        (other 5 refl (other 6 refl (other 7 refl (each-joined (in-clause (clauseAt w p) refl) (other 16 refl (other 17 refl empty))))))
+        (other 5 refl
+        (other 6 refl
+        (other 22 refl
+        (each-joined
+        (each-joined (each-below _ p (λ q l. other 22 refl empty)) (other 7 refl (in-clause (clauseAt w p) refl)))
+        (other 16 refl (other 17 refl empty))))))
 
   -- ---- the list
 

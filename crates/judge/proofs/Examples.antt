@@ -12,6 +12,7 @@ use Rattle.judge.specs.Judge.{lineChecks, clauseChecks, rangeChecks, ins
 use Rattle.units.specs.Units.{lowAt, highAt, liesIn}
 use Rattle.section.specs.Control.{isAluOpener, controlOf, controlAt, isEnd, endFrom, endOf}
 use Rattle.section.specs.Rules.{badLength, noEnd, isNotTaken, badModes, badStill, badBranch, badReserved, badField, clauseOf, clauseAt, outside, badRange, pixelTarget, vertexTarget, badTarget, badSelectors, badExportRegister, exportRule, badExport}
+use Rattle.apart.specs.Apart.{sameRange, disjoint, halfShared, oddFetch, sharedChecks, layoutChecks}
 use Rattle.walk.specs.Flow.{popTo, move, stackOf, stackAt, flowOf, flowAt}
 use Rattle.opcodes.specs.Numbers.{cf, cfAlu, cfControl, cfAluControl}
 use Rattle.walk.specs.Rules.{lacking, lacksAt, badDepth, leftOver, isLoopEnd, isForward, isBackward, wrongTarget, sameFrame, sameStack, carries, onTop, backTo, endsLoop, differs, badStack, stackChecks, secondChecks}
@@ -72,5 +73,5 @@ abbrev given : Example → List ℕ
 given x = x .answer
 
 table : map judged examples ≡ map given examples
-unfolding lowAt highAt isAluOpener cfAluControl cfAlu cfControl cf controlOf controlAt isEnd endFrom endOf badLength noEnd isNotTaken badModes badStill badBranch badReserved badField clauseAt clauseOf outside badRange pixelTarget vertexTarget badTarget badSelectors badExportRegister exportRule badExport popTo move stackOf stackAt flowOf flowAt lacking lacksAt badDepth leftOver isLoopEnd isForward isBackward wrongTarget sameFrame sameStack carries onTop backTo endsLoop differs badStack stackChecks secondChecks op2 op3 op2Class op3Class isOp3 classOf badNumber isRelative sourceLiterals literals badSource hasRelative isWritten destinationNames namesOf named countBelow anyBelow allBelow literalsBelow someUnit unitFor unitsBefore unitAt badUnit badUnitAt issued isAlike isFilled badReduction badIssue eachOf ruleChecks lowOf highOf isLast sizeFrom sizeOf spanOf badShape groupsFrom groupsOf isPixel groupChecks checksOf settersIn badPush liesIn instruction.badField alu.clauseChecks flow.badTarget firstBroken below lineChecks clauseChecks rangeChecks insideChecks pairChecks firstChecks passes checks judgement examples
+unfolding lowAt highAt isAluOpener cfAluControl cfAlu cfControl cf controlOf controlAt isEnd endFrom endOf badLength noEnd isNotTaken badModes badStill badBranch badReserved badField clauseAt clauseOf outside badRange sameRange disjoint halfShared oddFetch sharedChecks layoutChecks pixelTarget vertexTarget badTarget badSelectors badExportRegister exportRule badExport popTo move stackOf stackAt flowOf flowAt lacking lacksAt badDepth leftOver isLoopEnd isForward isBackward wrongTarget sameFrame sameStack carries onTop backTo endsLoop differs badStack stackChecks secondChecks op2 op3 op2Class op3Class isOp3 classOf badNumber isRelative sourceLiterals literals badSource hasRelative isWritten destinationNames namesOf named countBelow anyBelow allBelow literalsBelow someUnit unitFor unitsBefore unitAt badUnit badUnitAt issued isAlike isFilled badReduction badIssue eachOf ruleChecks lowOf highOf isLast sizeFrom sizeOf spanOf badShape groupsFrom groupsOf isPixel groupChecks checksOf settersIn badPush liesIn instruction.badField alu.clauseChecks flow.badTarget firstBroken below lineChecks clauseChecks rangeChecks insideChecks pairChecks firstChecks passes checks judgement examples
 table = refl

@@ -35,6 +35,7 @@ use Rattle.section.specs.declared.Clause.the-variants.{NoClause, AluClause, Fet
 use Rattle.section.specs.Control.{controlAt, endOf}
 use Rattle.section.specs.Rules.{badLength, noEnd, clauseOf, clauseAt}
 use Rattle.section.proofs.OfEnd.{end-at-most}
+use Rattle.apart.specs.Apart.{sharedChecks, layoutChecks}
 use Rattle.walk.specs.declared.Flow.{Flow}
 use Rattle.walk.specs.Rules.{stackChecks, secondChecks}
 use Rattle.judge.specs.Judge.{lineChecks, clauseChecks, rangeChecks, insideChecks, pairChecks, firstChecks, passes, checks, judgement, readJudgement, judgementOfBytes}
@@ -149,15 +150,23 @@ module _ (place : Quadwords) (near : place .0 < 2 ^ 16) where
   in-clause card w (AluClause s n push mode0 mode1) few = in-alu _ push _ w s n few
   in-clause card w (FetchClause s n kind) few = in-fetches kind _ w s n few
 
--- 4 to 6, 7 and the clause
+-- 22, asked against each earlier place
+in-layout : (opens : ℕ → Clause) (p : ℕ) → p < 2 ^ 16 → AllNarrow (layoutChecks opens p)
+unfolding layoutChecks sharedChecks
+in-layout opens p near =
+    of-pair (quadwords p) near 22 (omega arith, omega arith)
+    (each-below _ p (λ q l. of-pair (quadwords p) near 22 (omega arith, omega arith) empty))
+
+-- 4 to 6, 22, 7 and the clause
 in-pair : (card : Card) (w : List ℕ) (e p : ℕ) → p < 2 ^ 16 → AllNarrow (pairChecks card w e p)
 unfolding pairChecks rangeChecks insideChecks clauseAt
 in-pair card w e p near =
     of-pair (quadwords p) near 4 (omega arith, omega arith)
     (of-pair (quadwords p) near 5 (omega arith, omega arith)
     (of-pair (quadwords p) near 6 (omega arith, omega arith)
+    (each-joined (in-layout (clauseAt w) p near)
     (of-pair (quadwords p) near 7 (omega arith, omega arith)
-    (in-clause (quadwords p) near card w (clauseAt w p) (few-slots (controlAt w p) _ _)))))
+    (in-clause (quadwords p) near card w (clauseAt w p) (few-slots (controlAt w p) _ _))))))
 
 -- ---- both passes
 

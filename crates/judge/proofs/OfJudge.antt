@@ -24,7 +24,9 @@ use Rattle.card.specs.Card.{figureTests, cardOf}
 use Rattle.card.specs.Made.{firstNot, testOf}
 use Rattle.section.specs.Control.{searched, endOf}
 use Rattle.section.specs.Rules.{badLength, noEnd}
+use Rattle.card.proofs.OfCard.{range-figures}
 use Rattle.section.proofs.OfEnd.{ends-at}
+use Rattle.section.proofs.OfRules.{length-right}
 use Rattle.walk.specs.Flow.{flowAt}
 use Rattle.walk.specs.CodeHeld.{Recorded}
 use Rattle.walk.specs.CodeRows.{rowChecks}
@@ -114,10 +116,15 @@ module _ (card : Card) (w : List ℕ) {t : CardTest} (e : t ≡ testOf card) whe
           end-is : endOf w ≡ z .0
           end-is = ap (λ (y : Quadwords). y .0) (sym q)
 
-          pub in-words : InWords w (z .0)
+          pub in-words : InWords card w (z .0)
           in-words =
               let y = ends-at w (no-end-is false x) in
-              record { in-buffer = omega (arith, y .in-buffer, end-is); among-512 = omega (arith, y .among-512, end-is) }
+              let whole = length-right w (card .quads) (sym f ∙ k) in
+              record {
+                in-buffer = omega (arith, y .in-buffer, end-is);
+                among-512 = omega (arith, y .among-512, end-is);
+                quads-marked = omega (arith, whole, range-figures card (sym e ∙ h) .quads-most);
+              }
 
           pub by-passes : {v : Verdict} → v ≡ firstBroken (passes card w (z .0)) → Meets card w v
           by-passes g =

@@ -1,22 +1,26 @@
 -- The first pass: a place from its parts, and one place more. Assumes nothing.
 use mathlib.Core.Path.{_≡_, sym, ap, _∙_, subst}
 use mathlib.Core.List.{List}
-use Prim.Native.Nat.{ℕ, suc, _+_, _*_, _≤_, _<_}
+use Prim.Native.Nat.{ℕ, suc, _≤_, _<_, min}
 use native.Mathlib.Omega.{arith}
-use lib.ListN.{length, getD, set, length-set}
+use lib.ListN.{length, set, length-set}
 use Rattle.units.specs.declared.Quadwords.{Quadwords}
 use Rattle.units.specs.declared.Slots.{Slots}
-use Rattle.units.specs.declared.Words.{Words}
-use Rattle.units.specs.Units.{lowAt, highAt, lowWord}
-use Rattle.units.specs.Code.{wordsIn64, capped}
+use Rattle.units.specs.Units.{quadwords, lowAt, highAt}
 use Rattle.checks.specs.declared.Place.{Place}
 use Rattle.checks.specs.declared.Verdict.{Verdict}
 use Rattle.checks.specs.declared.Verdict.the-variants.{Accepted, Refused}
 use Rattle.checks.specs.Checks.{firstBroken, below}
-use Rattle.checks.proofs.OfChecks.{never-accepted, joined-clean, joined-refused, below-none, below-next, below-found}
+use Rattle.checks.proofs.OfChecks.{never-accepted, joined-clean, joined-refused, left-clean, below-none, below-next, below-found, below-each}
 use Rattle.card.specs.declared.Card.{Card}
+use Rattle.section.specs.declared.Clause.{Clause}
 use Rattle.section.specs.Control.{controlOf, controlAt}
 use Rattle.section.specs.Rules.{clauseOf, clauseAt}
+use Rattle.apart.specs.declared.Seen.{Seen}
+use Rattle.apart.specs.declared.Seen.the-variants.{Rising}
+use Rattle.apart.specs.Apart.{behind}
+use Rattle.apart.specs.Code.{Fit, quadwordsIn, markedIn, SeenWith, SeenBefore}
+use Rattle.apart.proofs.OfApart.{seen-first, seen-next, unnamed-apart, named-not-apart}
 use Rattle.walk.specs.declared.Flow.{Flow}
 use Rattle.walk.specs.declared.Frames.{Frames}
 use Rattle.walk.specs.CodeRows.{frames}
@@ -28,28 +32,14 @@ use Rattle.judge.specs.declared.pairs.Pair.{Pair}
 use Rattle.judge.specs.declared.stack.Ahead.{Ahead}
 use Rattle.judge.specs.declared.stack.Ahead.the-variants.{Broken, Next}
 use Rattle.judge.specs.Judge.{pairChecks, firstChecks}
-use Rattle.judge.specs.Code.{pairAt, InWords, Section, Standing, At, StackFound, Found, Stepped}
+use Rattle.judge.specs.Code.{pairAt, InWords, Section, Standing, At, StackAt, LayoutTold, StackFound, Found, Stepped}
+use Rattle.judge.proofs.OfPairs.{range-kept, pair-range, pair-layout, ends-by-quads, layout-told}
 
 -- ---- one place
 
--- where a place of the section stands in the words
-pub record Stands (w : List ℕ) (p at : ℕ) : Type 0 where
-  pub is-low : getD w at 0 ≡ lowAt w p
-  pub is-high : getD w (at + 1) 0 ≡ highAt w p
-  pub in-words : at + 1 < length w
-  pub few : at < 1024
-
-pub stands : (w : List ℕ) (e : ℕ) (p : Quadwords) (at : Words) → at ≡ wordsIn64 (lowWord p) → InWords w e → p .0 ≤ e → Stands w (p .0) (at .0)
-unfolding lowAt highAt
-stands w e p at f k l =
-    let b : at .0 ≡ capped (2 * p .0) = ap (λ (x : Words). x .0) f in
-    let exact : at .0 ≡ 2 * p .0 = omega (arith, b, k .among-512) in
-    record {
-      is-low = ap (λ (n : ℕ). getD w n 0) exact;
-      is-high = ap (λ (n : ℕ). getD w (n + 1) 0) exact;
-      in-words = omega (arith, exact, k .in-buffer);
-      few = omega (arith, exact, k .among-512);
-    }
+-- a place of the section is a quadword of the words
+pub is-quadword : (card : Card) (w : List ℕ) (e p : ℕ) → InWords card w e → p ≤ e → p < quadwordsIn w
+is-quadword card w e p k l = omega (arith, k .in-buffer)
 
 -- the pair that was read there
 pub pair-here :
@@ -70,21 +60,23 @@ module _ (card : Card) (w : List ℕ) (e p : ℕ) {v : Verdict} (f : v ≡ first
   unfolding firstChecks
   found-pair h = joined-refused (pairChecks card w e p) (stackChecks (card .stack) e (flowAt w) p) (sym f ∙ h)
 
-  pub found-stack : (x : Ahead) → v ≡ Accepted → StackFound (card .stack) e (flowAt w) p x → Found card w e p x
+  pub found-stack :
+      (next : Seen) (x : Ahead) → v ≡ Accepted → SeenBefore w e (suc p) next → StackFound (card .stack) e (flowAt w) p next x → Found card w e p x
   unfolding firstChecks
-  found-stack x h g = by x g
+  found-stack next x h seen g = by x g
     where
       clean : firstBroken (firstChecks card w e p) ≡ firstBroken (stackChecks (card .stack) e (flowAt w) p)
       clean = joined-clean (pairChecks card w e p) (stackChecks (card .stack) e (flowAt w) p) (sym f ∙ h)
 
-      by : (x : Ahead) → StackFound (card .stack) e (flowAt w) p x → Found card w e p x
+      by : (x : Ahead) → StackFound (card .stack) e (flowAt w) p next x → Found card w e p x
       by (Broken r at slot) k = clean ∙ k
-      by (Next f) k = (clean ∙ k .0, k .1, k .2)
+      by (Next f n) k = (clean ∙ k .0, k .1, k .2, subst (SeenBefore w e (suc p)) (sym (k .3)) seen)
 
 -- ---- the places in a row
 
 pub standing-first :
-    (card : Card) (w : List ℕ) (e : ℕ) (tops marks : List ℕ) → Section w e tops marks → Standing card w e 0 (frames 0 0 0) tops marks
+    (card : Card) (w : List ℕ) (e : ℕ) (tops marks : List ℕ) → Section card w e tops marks
+    → Standing card w e 0 (frames 0 0 0) (Rising (quadwords 0)) tops marks
 standing-first card w e tops marks h =
     record {
       section = h;
@@ -93,14 +85,54 @@ standing-first card w e tops marks h =
       held = held-start (flowAt w);
       not-deep = omega arith;
       recorded = recorded-none (flowAt w) tops marks;
+      seen-before = seen-first w e;
     }
 
 -- a place from what was found there, with its row written
-module _ (card : Card) (w : List ℕ) (e p : ℕ) (s : Frames) (tops marks : List ℕ) (here : At card w e p s tops marks) where
+module _ (card : Card) (w : List ℕ) (e p : ℕ) (s : Frames) (seen : Seen) (tops marks : List ℕ) (here : At card w e p s seen tops marks) where
+  pub stack-at : StackAt card w e p s tops marks
+  stack-at =
+      let z = here .standing in
+      record {
+        among-512 = z .section .in-words .among-512;
+        in-section = here .in-section;
+        held = z .held;
+        not-deep = z .not-deep;
+        recorded = z .recorded;
+      }
+
+  -- nothing before breaks 6 or 22
+  fit-before : (q : ℕ) → q < p → Fit (markedIn w) (clauseAt w) q
+  unfolding firstChecks
+  fit-before q l =
+      let clean = left-clean (pairChecks card w e q) _ (below-each (firstChecks card w e) p q (here .standing .clean-before) l) in
+      record {
+        inside =
+            omega
+            (arith, ends-by-quads (quadwords e) (card .quads) (clauseAt w q) (pair-range card w e q clean .range), here .standing .section .in-words .quads-marked);
+        apart = pair-layout card w e q clean .apart;
+      }
+
+  module _ {k : Clause} (is : k ≡ clauseAt w p) (next : Seen) (f : SeenWith w e seen k next) where
+    with-p : SeenWith w e seen (clauseAt w p) next
+    with-p = subst (λ (x : Clause). SeenWith w e seen x next) is f
+
+    pub seen-then : SeenBefore w e (suc p) next
+    seen-then = seen-next w e p seen next (here .standing .seen-before) with-p
+
+    pub told-at : LayoutTold card w e p next
+    told-at clean =
+        let near : p < min (suc e) (quadwordsIn w) = omega (arith, here .in-section, is-quadword card w e p (here .standing .section .in-words) (here .in-section)) in
+        let inside : behind (clauseAt w p) .0 ≤ markedIn w =
+        omega
+        (arith, ends-by-quads (quadwords e) (card .quads) (clauseAt w p) (range-kept card w e p clean .range), here .standing .section .in-words .quads-marked) in
+        layout-told w p next (unnamed-apart w e p seen next (here .standing .seen-before) with-p fit-before near inside)
+        (named-not-apart w e p seen next (here .standing .seen-before) with-p fit-before near inside)
+
   pub stepped : (a : Ahead) → Found card w e p a → Stepped card w e p a (set tops p (s .top .0)) (set marks p (s .marks))
   stepped (Broken r at slot) h =
       below-found (firstChecks card w e) (suc e) p (omega (arith, here .in-section)) (here .standing .clean-before) h
-  stepped (Next f) h =
+  stepped (Next f next) h =
       let z = here .standing in
       record {
         section =
@@ -116,6 +148,7 @@ module _ (card : Card) (w : List ℕ) (e p : ℕ) (s : Frames) (tops marks : Lis
         recorded =
             recorded-more (flowAt w) tops marks p (s .top .0) (s .marks) (omega (arith, z .section .tops-room, here .in-section))
             (omega (arith, z .section .marks-room, here .in-section)) (z .recorded) (z .held .shape);
+        seen-before = h .3;
       }
 
 -- the first pass's answers
@@ -127,12 +160,13 @@ module _ (card : Card) (w : List ℕ) (e p : ℕ) (tops marks : List ℕ) where
       (sym (subst (λ (x : Ahead). Stepped card w e p x tops marks) q h), λ x. absurd (never-accepted x))
 
   pub passing-next :
-      {a : Ahead} {f : Frames} {next : ℕ} → Stepped card w e p a tops marks → a ≡ Next f → next ≡ suc p → Standing card w e next f tops marks
+      {a : Ahead} {f : Frames} {seen : Seen} {next : ℕ} → Stepped card w e p a tops marks → a ≡ Next f seen → next ≡ suc p
+      → Standing card w e next f seen tops marks
   passing-next h q z =
       rw z (subst (λ (x : Ahead). Stepped card w e p x tops marks) q h)
 
   pub passing-all :
-      {s : Frames} → Standing card w e p s tops marks → e < p
+      {s : Frames} {seen : Seen} → Standing card w e p s seen tops marks → e < p
       → (Accepted ≡ firstBroken (below (firstChecks card w e) (suc e))) × (Accepted ≡ Accepted → Recorded (flowAt w) (suc e) tops marks)
   passing-all g l =
       let q : p ≡ suc e = omega (arith, g .near) in

@@ -6,9 +6,11 @@ use mathlib.Core.List.{List, [], _∷_, _++_, List·Memᴰ, List·Memᴰ·head, 
 use mathlib.Core.Logic.{_⊎_, inl, inr, ⊎-elim}
 use Prim.Native.Nat.{ℕ, zero, suc, _+_, _*_, _/_, _≤_, _<_}
 use native.Mathlib.Omega.{arith}
-use native.Mathlib.Nat.{le-refl, le-step}
+use native.Mathlib.Nat.{eq-or-lt-of-le, le-refl, le-step}
+use lib.Dec.{ltb}
 use lib.ListN.{length}
-use borrow.Author.Tests.{le-leb}
+use borrow.Author.Tests.{ltb-true, ltb-false, le-leb}
+use Rattle.laws.proofs.OfTests.{by-test}
 use Rattle.units.specs.declared.Quadwords.{Quadwords}
 use Rattle.units.specs.declared.Slots.{Slots}
 use Rattle.units.specs.Units.{quadwords, words, lowAt, highAt, slotsLength, fetchesLength, liesIn}
@@ -31,12 +33,14 @@ use Rattle.section.specs.Control.{controlAt, endOf}
 use Rattle.section.specs.Rules.{isNotTaken, clauseAt, badRange, exportNames}
 use Rattle.section.proofs.OfEnd.{ends-at}
 use Rattle.section.proofs.OfRules.{length-right, inside, each-export-granted}
+use Rattle.apart.specs.Apart.{startOf, lengthOf, oddFetch, SameOrDisjoint}
+use Rattle.apart.proofs.OfApart.{not-half, other-way}
 use Rattle.walk.specs.Flow.{flowAt}
 use Rattle.walk.specs.Rules.{stackChecks, secondChecks}
 use Rattle.walk.specs.Walk.{State, start, walk}
 use Rattle.walk.proofs.OfWalk.{Sound, clean-passes, walk-sound}
-use Rattle.judge.specs.Judge.{lineChecks, limitsWith, limitsIn, clauseChecks, rangeChecks, insideChecks, pairChecks, firstChecks, passes, checks, judgement}
-use Rattle.judge.proofs.OfPairs.{RangeKept, range-kept, InsideKept, inside-kept}
+use Rattle.judge.specs.Judge.{lineChecks, limitsWith, limitsIn, clauseChecks, pairChecks, firstChecks, passes, checks, judgement}
+use Rattle.judge.proofs.OfPairs.{RangeKept, InsideKept, pair-range, pair-layout, pair-inside}
 use Rattle.judge.specs.Safe.{LiesBehind, IsFilled, namesBelow, namesOfEach, clauseNames, namesAt, FirstEnd, Safe, Safely}
 
 -- ---- a name in a list of names
@@ -177,22 +181,14 @@ module _ (card : Card) (w : List ℕ) (j : Judged card w) where
   unfolding firstChecks
   pair-clean p l = left-clean (pairChecks card w (endOf w) p) _ (j .first p l)
 
-  range-clean : (p : ℕ) → p ≤ endOf w → RangeKept card w (endOf w) p
-  unfolding pairChecks
-  range-clean p l = range-kept card w (endOf w) p (left-clean (rangeChecks card w (endOf w) p) (insideChecks card w p) (pair-clean p l))
-
-  inside-clean : (p : ℕ) → p ≤ endOf w → InsideKept card w p
-  unfolding pairChecks
-  inside-clean p l = inside-kept card w p (right-clean (rangeChecks card w (endOf w) p) (insideChecks card w p) (pair-clean p l))
-
   stack-clean : (p : ℕ) → p ≤ endOf w → firstBroken (stackChecks (card .stack) (endOf w) (flowAt w) p) ≡ Accepted
   unfolding firstChecks
   stack-clean p l = right-clean (pairChecks card w (endOf w) p) _ (j .first p l)
 
   safe-at : (s : State) → Sound (card .stack) (endOf w) (flowAt w) s → Safe card w s
   safe-at s k =
-      let r = range-clean (s .at) (k .inside) in
-      let i = inside-clean (s .at) (k .inside) in
+      let r = pair-range card w (endOf w) (s .at) (pair-clean (s .at) (k .inside)) in
+      let i = pair-inside card w (endOf w) (s .at) (pair-clean (s .at) (k .inside)) in
       record {
         no-fault = k .no-fault;
         has-end = j .end;
@@ -214,3 +210,20 @@ module _ (card : Card) (w : List ℕ) (j : Judged card w) where
 -- an accepted pack's walk is safe
 pub accepted-safely : (card : Card) (w : List ℕ) → judgement card w ≡ Accepted → Safely card w
 accepted-safely card w h = safely card w (judged card w h)
+
+-- ---- what rule 22 adds: of an accepted pack's clauses two are the same range or disjoint, and those of fetches start at even quadwords
+
+module _ (card : Card) (w : List ℕ) (h : judgement card w ≡ Accepted) where
+  pub accepted-even : (p : ℕ) → p ≤ endOf w → oddFetch (clauseAt w p) ≡ false
+  accepted-even p l = pair-layout card w (endOf w) p (pair-clean card w (judged card w h) p l) .even
+
+  earlier-apart : (q p : ℕ) → q < p → p ≤ endOf w → SameOrDisjoint (clauseAt w q) (clauseAt w p)
+  earlier-apart q p k l =
+      not-half (clauseAt w q) (clauseAt w p) (pair-layout card w (endOf w) p (pair-clean card w (judged card w h) p l) .apart q k)
+
+  pub accepted-apart : (p q : ℕ) → p ≤ endOf w → q ≤ endOf w → SameOrDisjoint (clauseAt w p) (clauseAt w q)
+  accepted-apart p q l m =
+      by-test (ltb p q) (λ e. earlier-apart p q (ltb-true p q e) m)
+      (λ e.
+      ⊎-elim (λ same. inl (ap (λ (j : ℕ). startOf (clauseAt w j) .0) (sym same), ap (λ (j : ℕ). lengthOf (clauseAt w j) .0) (sym same)))
+      (λ k. other-way (clauseAt w q) (clauseAt w p) (earlier-apart q p k l)) (eq-or-lt-of-le (ltb-false p q e)))

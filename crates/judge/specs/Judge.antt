@@ -1,5 +1,6 @@
 -- The order of all checks, and the judgement: document 01, "Numbers and what they mean". Order: 1, 2, 3. Then first pass, CF positions
--- rising; at each, 4 to 17 rising. Only if the first pass is clean, second pass: positions rising, 18 before 19.
+-- rising; at each, 4 to 17 rising, with 22 directly behind 6 (document 02, request 4). Only if the first pass is clean, second pass:
+-- positions rising, 18 before 19.
 use Prim.Native.Nat.{ℕ, suc}
 use mathlib.Core.Bool.{Bool, not}
 use mathlib.Core.List.{List, [], _∷_, _++_}
@@ -20,6 +21,7 @@ use Rattle.section.specs.declared.Clause.{Clause}
 use Rattle.section.specs.declared.Clause.the-variants.{NoClause, AluClause, FetchClause}
 use Rattle.section.specs.Control.{controlAt, endOf}
 use Rattle.section.specs.Rules.{badLength, noEnd, isNotTaken, badField, clauseAt, badRange, badExport}
+use Rattle.apart.specs.Apart.{layoutChecks}
 use Rattle.walk.specs.Flow.{flowAt}
 use Rattle.walk.specs.Rules.{stackChecks, secondChecks}
 
@@ -29,7 +31,7 @@ unfoldable pub lineChecks : List (ℕ × Bool) → List Check
 lineChecks [] = []
 lineChecks (t ∷ ts) = check 1 (Line (t .0)) (slots 0) (not (t .1)) ∷ lineChecks ts
 
--- ---- 4 to 15 at place p of a section that ends at e
+-- ---- 4 to 15, and 22, at place p of a section that ends at e
 
 -- what is granted in a clause: the card's figures, and the modes of an ALU clause
 abbrev pub limitsWith : Card → ℕ → ℕ → Limits
@@ -62,12 +64,13 @@ insideChecks card w p =
     ofPair 7 p (badExport (controlAt w p) (card .kind) (card .gprs) (lowAt w p) (highAt w p))
     ∷ clauseChecks card w (quadwords p) (clauseAt w p)
 
+-- 4, 5, 6, then 22, then 7 and the clause
 unfoldable pub pairChecks : Card → List ℕ → ℕ → ℕ → List Check
-pairChecks card w e p = rangeChecks card w e p ++ insideChecks card w p
+pairChecks card w e p = rangeChecks card w e p ++ (layoutChecks (clauseAt w) p ++ insideChecks card w p)
 
 -- ---- all checks
 
--- the first pass at p: 4 to 15, then 16 and 17
+-- the first pass at p: those, then 16 and 17
 unfoldable pub firstChecks : Card → List ℕ → ℕ → ℕ → List Check
 firstChecks card w e p = pairChecks card w e p ++ stackChecks (card .stack) e (flowAt w) p
 

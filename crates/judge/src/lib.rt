@@ -2,6 +2,7 @@
 //
 // Document 01, "Numbers and what they mean": the checks in their order, of which the first broken one is the answer. Nothing is copied;
 // the stack before each place of the section is kept as two numbers (crate `walk`).
+use apart::Seen;
 use card::Card;
 use card::CardRead;
 use card::CardTest;
@@ -69,7 +70,7 @@ pub(crate) fn refused(rule: u8, place: Place) -> Verdict
 
 // The section ends at pair `e`. Most sections are short, and rows for a long one would cost more than judging them.
 fn both_passes(card: Card, words: &[u32], e: Quadwords) -> Verdict
-    requires { ⌜ InWords (now words) (e .0) ⌝ }
+    requires { ⌜ InWords card (now words) (e .0) ⌝ }
     ensures { λ r. ⌜ r ≡ firstBroken (passes card (now (words .entry)) (e .0)) ⌝ }
 {
     if units::is_below(e, Quadwords(32)) {
@@ -90,7 +91,7 @@ fn passes_with(
     tops: &mut [usize],
     marks: &mut [usize],
 ) -> Verdict
-    requires { ⌜ Section (now words) (e .0) (now tops) (now marks) ⌝ }
+    requires { ⌜ Section card (now words) (e .0) (now tops) (now marks) ⌝ }
     ensures { λ r. ⌜ r ≡ firstBroken (passes card (now (words .entry)) (e .0)) ⌝ }
 {
     let pairs = units::quadword_behind(e);
@@ -101,7 +102,7 @@ fn passes_with(
     }
 }
 
-// Rules 4 to 17, places rising. The rows of all places are left for the second pass.
+// Rules 4 to 17 and 22, places rising. The rows of all places are left for the second pass.
 fn first_pass(
     card: Card,
     words: &[u32],
@@ -109,7 +110,7 @@ fn first_pass(
     tops: &mut [usize],
     marks: &mut [usize],
 ) -> Verdict
-    requires { ⌜ Section (now words) (e .0) (now tops) (now marks) ⌝ }
+    requires { ⌜ Section card (now words) (e .0) (now tops) (now marks) ⌝ }
     ensures { λ r. ⌜ r ≡ firstBroken (below (firstChecks card (now (words .entry)) (e .0)) (suc (e .0))) ⌝ }
     ensures { λ r. ⌜ (r ≡ Accepted → Recorded (flowAt (now (words .entry))) (suc (e .0)) (now (tops .exit)) (now (marks .exit))) ⌝ }
 {
@@ -118,15 +119,17 @@ fn first_pass(
         marks: 0,
         depth: 0,
     };
+    let mut seen = Seen::Rising(Quadwords(0));
     let mut p = Quadwords(0);
     while units::is_at_most(p, e) {
-        let ahead = first_at(card, words, e, p, s, &mut tops[..], &mut marks[..]);
+        let ahead = first_at(card, words, e, p, s, seen, &mut tops[..], &mut marks[..]);
         match ahead {
             Ahead::Broken { rule, place, slot } => {
                 return Verdict::Refused { rule, place, slot };
             }
-            Ahead::Next(f) => {
+            Ahead::Next(f, next) => {
                 s = f;
+                seen = next;
             }
         }
         p = units::quadword_behind(p);
@@ -134,20 +137,21 @@ fn first_pass(
     Verdict::Accepted
 }
 
-// Rules 4 to 17 at place p, before which the stack is `s`; its row is written.
+// Rules 4 to 17 and 22 at place p, before which the stack is `s`, and `seen` is known of the clauses; its row is written.
 fn first_at(
     card: Card,
     words: &[u32],
     e: Quadwords,
     p: Quadwords,
     s: Frames,
+    seen: Seen,
     tops: &mut [usize],
     marks: &mut [usize],
 ) -> Ahead
-    requires { ⌜ At card (now words) (e .0) (p .0) s (now tops) (now marks) ⌝ }
+    requires { ⌜ At card (now words) (e .0) (p .0) s seen (now tops) (now marks) ⌝ }
     ensures { λ r. ⌜ Stepped card (now (words .entry)) (e .0) (p .0) r (now (tops .exit)) (now (marks .exit)) ⌝ }
 {
-    let ahead = place_ahead(card, words, e, p, s, &tops[..], &marks[..]);
+    let ahead = place_ahead(card, words, e, p, s, seen, &tops[..], &marks[..]);
     let row = p.0;
     tops[row] = s.top.0;
     marks[row] = s.marks;
@@ -161,20 +165,23 @@ fn place_ahead(
     e: Quadwords,
     p: Quadwords,
     s: Frames,
+    seen: Seen,
     tops: &[usize],
     marks: &[usize],
 ) -> Ahead
-    requires { ⌜ At card (now words) (e .0) (p .0) s (now tops) (now marks) ⌝ }
+    requires { ⌜ At card (now words) (e .0) (p .0) s seen (now tops) (now marks) ⌝ }
     ensures { λ r. ⌜ Found card (now (words .entry)) (e .0) (p .0) r ⌝ }
 {
     let at = units::low_word(p).0;
     let pair = pairs::pair_of(words[at], words[at + 1]);
-    let verdict = pairs::pair_verdict(card, words, e, p, pair);
+    let clause = pair.clause;
+    let next = apart::seen_with(words, e, seen, clause);
+    let verdict = pairs::pair_verdict(card, words, e, p, pair, next);
     match verdict {
         Verdict::Refused { rule, place, slot } => Ahead::Broken { rule, place, slot },
         Verdict::Accepted => {
             let flow = pairs::flow_of(pair);
-            stack::stack_at(card, words, flow, e, p, s, tops, marks)
+            stack::stack_at(card, words, flow, e, p, s, next, tops, marks)
         }
     }
 }

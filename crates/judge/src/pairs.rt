@@ -1,5 +1,6 @@
-// Rules 4 to 15 at one pair: a function for each stretch of rules, the later one asked where the earlier accepts.
+// Rules 4 to 15, with 22 behind 6, at one pair: a function for each stretch of rules, the later one asked where the earlier accepts.
 use crate::refused;
+use apart::Seen;
 use card::Card;
 use checks::Place;
 use checks::Verdict;
@@ -14,7 +15,7 @@ ghost use Rattle.section.specs.Control.{controlOf};
 ghost use Rattle.section.specs.Rules.{clauseOf};
 ghost use Rattle.walk.specs.Flow as flows;
 ghost use Rattle.judge.specs.Judge as order;
-ghost use Rattle.judge.specs.Code.{pairAt};
+ghost use Rattle.judge.specs.Code.{pairAt, layoutVerdict, LayoutTold};
 
 // A control-flow pair: its words, what it is and the clause that it opens.
 pub struct Pair {
@@ -45,21 +46,30 @@ pub(crate) fn flow_of(pair: Pair) -> Flow
     walk::flow_of(control, pair.low, pair.high)
 }
 
-// Rules 4 to 15.
+// Rules 4 to 15 and 22; `seen` is what is known with the pair's clause.
 pub(crate) fn pair_verdict(
     card: Card,
     words: &[u32],
     end: Quadwords,
     p: Quadwords,
     pair: Pair,
+    seen: Seen,
 ) -> Verdict
     requires { ⌜ pair ≡ pairAt (now words) (p .0) ⌝ }
+    requires { ⌜ LayoutTold card (now words) (end .0) (p .0) seen ⌝ }
     ensures { λ r. ⌜ r ≡ firstBroken (order.pairChecks card (now (words .entry)) (end .0) (p .0)) ⌝ }
 {
     let opened = range_verdict(card, words, end, p, pair);
     match opened {
         Verdict::Refused { rule, place, slot } => Verdict::Refused { rule, place, slot },
-        Verdict::Accepted => inside_verdict(card, words, p, pair),
+        Verdict::Accepted => {
+            let clause = pair.clause;
+            let laid = layout_verdict(clause, seen, p);
+            match laid {
+                Verdict::Refused { rule, place, slot } => Verdict::Refused { rule, place, slot },
+                Verdict::Accepted => inside_verdict(card, words, p, pair),
+            }
+        }
     }
 }
 
@@ -78,6 +88,19 @@ fn range_verdict(card: Card, words: &[u32], end: Quadwords, p: Quadwords, pair: 
     let clause = pair.clause;
     if section::is_bad_range(end, card.quads, clause) {
         return refused(6, Place::Quadword(p));
+    }
+    Verdict::Accepted
+}
+
+// Rule 22.
+fn layout_verdict(clause: Clause, seen: Seen, p: Quadwords) -> Verdict
+    ensures { λ r. ⌜ r ≡ layoutVerdict clause seen p ⌝ }
+{
+    if apart::is_odd_fetch(clause) {
+        return refused(22, Place::Quadword(p));
+    }
+    if apart::names(seen, p) {
+        return refused(22, Place::Quadword(p));
     }
     Verdict::Accepted
 }

@@ -76,6 +76,16 @@ without-numbers : explanationBytes (record { verdict = Refused 1 (Line 7) (slots
 unfolding explanationBytes explanationLines ruleWord decimal decimalWithin
 without-numbers = refl
 
+-- quadword 2 opens a clause at an odd quadword, or one that shares a part of an earlier one
+clause-layout : explanationBytes (record { verdict = Refused 22 (Quadword (quadwords 2)) (slots 0); fault = NoNumber }) ≡ ascii "verdict=22\nplace=2\nslot=0\nrule=clause-layout\nfound=-\nlimit=-\n"
+unfolding explanationBytes explanationLines ruleWord decimal decimalWithin
+clause-layout = refl
+
+-- 0, the encoder's numbers, and the first behind the last word
+numbers-without-a-word : (ruleWord 0 ≡ "unknown") × (ruleWord 20 ≡ "unknown") × (ruleWord 21 ≡ "unknown") × (ruleWord 23 ≡ "unknown")
+unfolding ruleWord
+numbers-without-a-word = (refl, refl, refl, refl)
+
 accepted-in-one-line : explanationBytes (record { verdict = Accepted; fault = NoNumber }) ≡ ascii "verdict=0\n"
 unfolding explanationBytes explanationLines decimal decimalWithin
 accepted-in-one-line = refl

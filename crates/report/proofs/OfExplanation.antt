@@ -1,15 +1,13 @@
 -- The rules' words all differ; an explanation's bytes are its lines, and at most 156 of them. Assumes nothing.
 use mathlib.Core.Path.{_≡_, refl, sym, ap, subst, _∙_}
 use mathlib.Core.Bool.{Bool, true, not, _&&_, true≢false}
-use mathlib.Core.List.{List, [], _∷_, _++_, map}
-use Prim.Native.Nat.{ℕ, zero, suc, _+_, _*_, _^_, _≤_, _<_}
+use mathlib.Core.List.{List, [], _∷_, _++_}
+use Prim.Native.Nat.{ℕ, suc, _+_, _*_, _^_, _≤_, _<_}
 use Prim.Native.String.{String}
-use native.Mathlib.Nat.{zero-add}
 use native.Mathlib.Omega.{arith}
-use borrow.Author.Tests.{eq-eqb, ltb-true, ltb-false, not-true}
-use lib.Dec.{eqb, ltb}
-use lib.ListN.{length, getD, length-append}
-use Rattle.laws.proofs.OfLists.{upFrom, at-number}
+use borrow.Author.Tests.{eq-eqb, eqb-true, not-true}
+use lib.Dec.{eqb}
+use lib.ListN.{length, length-append}
 use Rattle.laws.proofs.OfTests.{both, by-test}
 use Rattle.ascii.specs.Ascii.{ascii}
 use Rattle.ascii.specs.Decimal.{decimal}
@@ -22,7 +20,7 @@ use Rattle.checks.specs.declared.AtFault.the-variants.{NoNumber, Number}
 use Rattle.checks.specs.declared.Explanation.{Explanation}
 use Rattle.checks.specs.Verdict.{lineOrQuadword, verdictNumber, verdictPlace, verdictSlot}
 use Rattle.report.specs.Report.{line, joined, piecesOf, linesOf}
-use Rattle.report.specs.Explanation.{ruleWord, foundText, limitText, linesFor, explanationLines, explanationBytes}
+use Rattle.report.specs.Explanation.{ruleWords, wordIn, ruleWord, foundText, limitText, linesFor, explanationLines, explanationBytes}
 use Rattle.report.specs.Code.{ruleLine}
 use Rattle.report.proofs.OfReport.{line-first, number-line-length}
 use Rattle.report.proofs.OfRules.{rule-line-length, feedless-word}
@@ -34,47 +32,44 @@ abbrev coded : List ℕ → ℕ
 coded [] = 0
 coded (b ∷ bs) = suc b + 256 * coded bs
 
-abbrev noneOf : List ℕ → ℕ → Bool
-noneOf [] x = true
-noneOf (y ∷ ys) x = not (eqb x y) && noneOf ys x
+abbrev same : String → String → Bool
+same x y = eqb (coded (ascii x)) (coded (ascii y))
 
-abbrev allDifferent : List ℕ → Bool
+-- a word is none of these, nor unknown
+abbrev noneOf : List (ℕ × String) → String → Bool
+noneOf [] x = not (same x "unknown")
+noneOf (w ∷ ws) x = not (same x (w .1)) && noneOf ws x
+
+abbrev allDifferent : List (ℕ × String) → Bool
 allDifferent [] = true
-allDifferent (x ∷ xs) = noneOf xs x && allDifferent xs
+allDifferent (w ∷ ws) = noneOf ws (w .1) && allDifferent ws
 
-none-at : (xs : List ℕ) (x : ℕ) → noneOf xs x ≡ true → (i : ℕ) → i < length xs → x ≡ getD xs i 0 → ⊥
-none-at [] x e i h q = omega arith
-none-at (y ∷ ys) x e zero h q =
-    let b = both (not (eqb x y)) (noneOf ys x) e in
-    true≢false (sym (eq-eqb x y q) ∙ not-true (eqb x y) (b .0))
-none-at (y ∷ ys) x e (suc i) h q = none-at ys x (both (not (eqb x y)) (noneOf ys x) e .1) i (omega arith) q
-
-differ-at : (xs : List ℕ) → allDifferent xs ≡ true → (i j : ℕ) → i < j → j < length xs → getD xs i 0 ≡ getD xs j 0 → ⊥
-differ-at [] e i j h k q = omega arith
-differ-at (x ∷ xs) e zero zero h k q = omega arith
-differ-at (x ∷ xs) e zero (suc j) h k q = none-at xs x (both (noneOf xs x) (allDifferent xs) e .0) j (omega arith) q
-differ-at (x ∷ xs) e (suc i) zero h k q = omega arith
-differ-at (x ∷ xs) e (suc i) (suc j) h k q = differ-at xs (both (noneOf xs x) (allDifferent xs) e .1) i j (omega arith) (omega arith) q
-
--- the words of 1 to 19, and before them unknown: no two are the same
-unfoldable pub words : List ℕ
-words = map (λ (n : ℕ). coded (ascii (ruleWord n))) (upFrom 0 20)
-
-pub words-differ : allDifferent words ≡ true
-unfolding words ruleWord
+-- no two of the words are the same, and none is unknown
+pub words-differ : allDifferent ruleWords ≡ true
 words-differ = refl
 
-word-at : (n : ℕ) → n < 20 → getD words n 0 ≡ coded (ascii (ruleWord n))
-unfolding words
-word-at n h = at-number (λ (k : ℕ). coded (ascii (ruleWord k))) 0 0 20 n h ∙ ap (λ (k : ℕ). coded (ascii (ruleWord k))) (zero-add n)
+not-same : (x y : String) → not (same x y) ≡ true → x ≡ y → ⊥
+not-same x y e q =
+    true≢false (sym (eq-eqb (coded (ascii x)) (coded (ascii y)) (ap (λ (w : String). coded (ascii w)) q)) ∙ not-true (same x y) e)
 
--- a word has one number
-pub number-of-word : (a b : ℕ) → a < 20 → b < 20 → ruleWord a ≡ ruleWord b → a ≡ b
-unfolding words
-number-of-word a b h k e =
-    let same : getD words a 0 ≡ getD words b 0 = word-at a h ∙ ap (λ (w : String). coded (ascii w)) e ∙ sym (word-at b k) in
-    by-test (ltb a b) (λ l. absurd (differ-at words words-differ a b (ltb-true a b l) k same))
-    (λ l. by-test (ltb b a) (λ m. absurd (differ-at words words-differ b a (ltb-true b a m) h (sym same))) (λ m. omega (arith, ltb-false a b l, ltb-false b a m)))
+none-in : (ws : List (ℕ × String)) (x : String) → noneOf ws x ≡ true → (n : ℕ) → x ≡ wordIn ws n → ⊥
+none-in [] x e n q = not-same x "unknown" e q
+none-in (w ∷ ws) x e n q =
+    let d = both (not (same x (w .1))) (noneOf ws x) e in
+    by-test (eqb n (w .0)) (λ h. not-same x (w .1) (d .0) (rw h at q)) (λ h. none-in ws x (d .1) n (rw h at q))
+
+one-number : (ws : List (ℕ × String)) → allDifferent ws ≡ true → (a b : ℕ) → wordIn ws a ≡ wordIn ws b → (wordIn ws a ≡ "unknown" → ⊥) → a ≡ b
+one-number [] e a b q own = absurd (own refl)
+one-number (w ∷ ws) e a b q own =
+    let d = both (noneOf ws (w .1)) (allDifferent ws) e in
+    by-test (eqb a (w .0))
+    (λ h. by-test (eqb b (w .0)) (λ k. eqb-true a (w .0) h ∙ sym (eqb-true b (w .0) k)) (λ k. absurd (none-in ws (w .1) (d .0) b (rw (h, k) at q))))
+    (λ h. by-test (eqb b (w .0)) (λ k. absurd (none-in ws (w .1) (d .0) a (sym (rw (h, k) at q)))) (λ k. one-number ws (d .1) a b (rw (h, k) at q) (rw h at own)))
+
+-- a word of its own is that of one number
+pub number-of-word : (a b : ℕ) → ruleWord a ≡ ruleWord b → (ruleWord a ≡ "unknown" → ⊥) → a ≡ b
+unfolding ruleWord
+number-of-word a b q own = one-number ruleWords words-differ a b q own
 
 -- ---- the bytes are those lines and no others
 

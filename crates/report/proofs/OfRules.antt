@@ -27,12 +27,12 @@ use Rattle.report.proofs.OfBuffer.{as-bytes}
 abbrev filled : List ℕ → List ℕ
 filled l = l ++ replicate (20 - length l) (code " ")
 
--- the code's table: the lines of 0 to 19, and their lengths
+-- the code's table: the lines of 0 to 22, and their lengths
 unfoldable pub rows : List (List ℕ)
-rows = map (λ (n : ℕ). filled (ruleLine n)) (upFrom 0 20)
+rows = map (λ (n : ℕ). filled (ruleLine n)) (upFrom 0 23)
 
 unfoldable pub lengths : List ℕ
-lengths = map (λ (n : ℕ). length (ruleLine n)) (upFrom 0 20)
+lengths = map (λ (n : ℕ). length (ruleLine n)) (upFrom 0 23)
 
 -- ---- a number behind the table
 
@@ -47,9 +47,9 @@ no-word (w ∷ ws) hi n e h =
     let b = both (ltb (w .0) hi) (below hi ws) e in
     rw (ne-eqb n (w .0) (λ q. omega (arith, ltb-true (w .0) hi (b .0)))) (no-word ws hi n (b .1) h)
 
-pub behind-table : (n : ℕ) → 20 ≤ n → ruleWord 0 ≡ ruleWord n
+pub behind-table : (n : ℕ) → 23 ≤ n → ruleWord 0 ≡ ruleWord n
 unfolding ruleWord
-behind-table n h = sym (no-word ruleWords 20 n refl h)
+behind-table n h = sym (no-word ruleWords 23 n refl h)
 
 -- ---- what is so of every word
 
@@ -77,14 +77,14 @@ feedless-word n = of-word (λ (w : String). feedless (ascii w)) refl n
 
 -- ---- what the code puts
 
-pub length-at : (n : ℕ) → n < 20 → getD lengths n 0 ≡ length (ruleLine n)
+pub length-at : (n : ℕ) → n < 23 → getD lengths n 0 ≡ length (ruleLine n)
 unfolding lengths
-length-at n h = at-number (λ (k : ℕ). length (ruleLine k)) 0 0 20 n h ∙ ap (λ (k : ℕ). length (ruleLine k)) (zero-add n)
+length-at n h = at-number (λ (k : ℕ). length (ruleLine k)) 0 0 23 n h ∙ ap (λ (k : ℕ). length (ruleLine k)) (zero-add n)
 
-pub line-at : (n : ℕ) → n < 20 → take (length (ruleLine n)) (getD rows n []) ≡ ruleLine n
+pub line-at : (n : ℕ) → n < 23 → take (length (ruleLine n)) (getD rows n []) ≡ ruleLine n
 unfolding rows
 line-at n h =
-    ap (take (length (ruleLine n))) (at-number (λ (k : ℕ). filled (ruleLine k)) [] 0 20 n h ∙ ap (λ (k : ℕ). filled (ruleLine k)) (zero-add n))
+    ap (take (length (ruleLine n))) (at-number (λ (k : ℕ). filled (ruleLine k)) [] 0 23 n h ∙ ap (λ (k : ℕ). filled (ruleLine k)) (zero-add n))
     ∙ take-append-seam (ruleLine n) (replicate (20 - length (ruleLine n)) (code " "))
 
 module _ (n count : ℕ) (bytes : List ℕ) (of-count : count ≡ length (ruleLine n)) (of-bytes : take (length (ruleLine n)) bytes ≡ ruleLine n) where

@@ -15,7 +15,7 @@ use Rattle.checks.specs.declared.Explanation.{Explanation}
 use Rattle.checks.specs.Verdict.{lineOrQuadword}
 use Rattle.report.specs.Report.{line, joined}
 
--- each rule's number and its word
+-- each rule's number and its word; 20 and 21 are the encoder's, and no pack is refused with them
 abbrev pub ruleWords : List (ℕ × String)
 ruleWords =
     (1, "card-line")
@@ -37,6 +37,7 @@ ruleWords =
     ∷ (17, "stack-left")
     ∷ (18, "target")
     ∷ (19, "stacks-differ")
+    ∷ (22, "clause-layout")
     ∷ []
 
 -- the word beside a number; a number without a word of its own gives unknown

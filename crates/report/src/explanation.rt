@@ -43,8 +43,9 @@ fn compose_explanation(explanation: Explanation, lines: &mut [u8]) -> usize
     put_fault(lines, at_found, fault)
 }
 
-// The lines of the rules by their numbers, each filled up with spaces; the first is that of a number without a word of its own.
-const RULE_LINES: [[u8; 20]; 20] = [
+// The lines of the rules by their numbers, each filled up with spaces; 0, 20 and 21 have no word of their own, and
+// a number behind the last takes the first row.
+const RULE_LINES: [[u8; 20]; 23] = [
     *b"rule=unknown\n       ",
     *b"rule=card-line\n     ",
     *b"rule=length\n        ",
@@ -65,10 +66,13 @@ const RULE_LINES: [[u8; 20]; 20] = [
     *b"rule=stack-left\n    ",
     *b"rule=target\n        ",
     *b"rule=stacks-differ\n ",
+    *b"rule=unknown\n       ",
+    *b"rule=unknown\n       ",
+    *b"rule=clause-layout\n ",
 ];
 
 // How many bytes of each are its line.
-const RULE_LENGTHS: [usize; 20] = [
+const RULE_LENGTHS: [usize; 23] = [
     13,
     15,
     12,
@@ -89,6 +93,9 @@ const RULE_LENGTHS: [usize; 20] = [
     16,
     12,
     19,
+    13,
+    13,
+    19,
 ];
 
 fn put_rule(lines: &mut [u8], at: usize, rule: u8) -> usize
@@ -103,14 +110,14 @@ fn put_rule(lines: &mut [u8], at: usize, rule: u8) -> usize
 }
 
 fn rule_bytes(row: usize) -> [u8; 20]
-    requires { ⌜ row < 20 ⌝ }
+    requires { ⌜ row < 23 ⌝ }
     ensures { λ r. ⌜ take (length (ruleLine row)) r ≡ ruleLine row ⌝ }
 {
     RULE_LINES[row]
 }
 
 fn rule_length(row: usize) -> usize
-    requires { ⌜ row < 20 ⌝ }
+    requires { ⌜ row < 23 ⌝ }
     ensures { λ r. ⌜ r ≡ length (ruleLine row) ⌝ }
 {
     RULE_LENGTHS[row]
@@ -118,9 +125,9 @@ fn rule_length(row: usize) -> usize
 
 // The row with the rule's word.
 fn rule_row(rule: u8) -> usize
-    ensures { λ r. ⌜ (r < 20) × (ruleWord r ≡ ruleWord rule) ⌝ }
+    ensures { λ r. ⌜ (r < 23) × (ruleWord r ≡ ruleWord rule) ⌝ }
 {
-    if rule < 20 {
+    if rule < 23 {
         return rule as usize;
     }
     0

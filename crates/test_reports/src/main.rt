@@ -40,7 +40,7 @@ fn main() {
     print(ReportBuild::Production, no_end, &mut out);
     // The largest numbers, in a buffer that just holds them and in one that lacks a byte.
     let last = 0xffff_ffff_ffff_ffff;
-    let largest = refused(19, Place::Quadword(Quadwords(last)), last);
+    let largest = refused(22, Place::Quadword(Quadwords(last)), last);
     let mut enough = [0u8; 92];
     print(ReportBuild::Production, largest, &mut enough);
     let mut short = [0u8; 91];

@@ -2,15 +2,17 @@
 -- ADDR of 32 bits can seem to lie inside a buffer by wrapping round. Assumes nothing.
 use mathlib.Core.Path.{_≡_, refl, ap}
 use mathlib.Core.Bool.{false}
+use mathlib.Core.List.{List}
 use Prim.Native.Nat.{ℕ, _+_, _*_, _/_, _-_, _^_, _<_}
 use native.Mathlib.Omega.{arith}
 use lib.Dec.{leb}
+use lib.ListN.{length, getD}
 use borrow.Author.Tests.{leb-true, leb-false, le-leb, lt-leb}
 use Rattle.laws.proofs.OfTests.{same-test}
 use Rattle.units.specs.declared.Quadwords.{Quadwords}
 use Rattle.units.specs.declared.Slots.{Slots}
 use Rattle.units.specs.declared.Words.{Words}
-use Rattle.units.specs.Units.{quadwords, slots, words, quadwordBehind, lowWord, highWord, counted, slotsLength, fetchesLength, wholeQuadwords, rangeEnd, isAtMost, liesIn}
+use Rattle.units.specs.Units.{quadwords, slots, words, quadwordBehind, lowWord, highWord, lowAt, highAt, counted, slotsLength, fetchesLength, wholeQuadwords, rangeEnd, isAtMost, liesIn}
 use Rattle.units.specs.Code.{capped, quadwordsIn64, wordsIn64}
 
 pub capped-exact : (n : ℕ) → n < 2 ^ 64 → capped n ≡ n
@@ -28,6 +30,25 @@ pub behind-exact : (p r : Quadwords) → r ≡ quadwordsIn64 (quadwordBehind p) 
 behind-exact p r f h =
     let b : r .0 ≡ capped (p .0 + 1) = ap (λ (x : Quadwords). x .0) f in
     omega arith
+
+-- a quadword that lies in the words: where its low word stands there, and its high word behind it
+pub record Stands (w : List ℕ) (p at : ℕ) : Type 0 where
+  pub is-low : getD w at 0 ≡ lowAt w p
+  pub is-high : getD w (at + 1) 0 ≡ highAt w p
+  pub in-words : at + 1 < length w
+
+pub stands :
+    (w : List ℕ) (p : Quadwords) (at : Words) → at ≡ wordsIn64 (lowWord p) → p .0 < wholeQuadwords (words (length w)) .0 → length w < 2 ^ 64
+    → Stands w (p .0) (at .0)
+unfolding lowAt highAt
+stands w p at f l m =
+    let b : at .0 ≡ capped (2 * p .0) = ap (λ (x : Words). x .0) f in
+    let exact : at .0 ≡ 2 * p .0 = omega arith in
+    record {
+      is-low = ap (λ (n : ℕ). getD w n 0) exact;
+      is-high = ap (λ (n : ℕ). getD w (n + 1) 0) exact;
+      in-words = omega arith;
+    }
 
 -- ---- worked examples, by computation
 

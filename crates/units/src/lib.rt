@@ -109,6 +109,13 @@ pub fn slot_quadword(start: Quadwords, s: Slots) -> Quadwords
     Quadwords(sum(start.0, s.0))
 }
 
+// The quadword behind a range of so many quadwords.
+pub fn range_end(start: Quadwords, size: Quadwords) -> Quadwords
+    ensures { λ r. ⌜ r ≡ quadwordsIn64 (count.rangeEnd start size) ⌝ }
+{
+    Quadwords(sum(start.0, size.0))
+}
+
 // Whether a range of so many quadwords ends at `limit` or before. Counts have 64 bits, so that no ADDR of 32 wraps round.
 pub fn ends_by(start: Quadwords, size: Quadwords, limit: Quadwords) -> bool
     ensures { λ r. ⌜ r ≡ count.isAtMost (count.rangeEnd start size) limit ⌝ }

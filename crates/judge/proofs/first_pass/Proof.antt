@@ -14,11 +14,11 @@ use Rattle.judge.proofs.first_pass.Statement.{statement}
 use Rattle.judge.proofs.first_pass.Tie as tie
 
 abbrev Inv-loop : tie.InvT-loop
-Inv-loop card words e tops₀ marks₀ s₀ p₀ tops marks s p =
-    Standing card words (e .0) (p .0) s tops marks × (length tops ≡ length tops₀) × (length marks ≡ length marks₀)
+Inv-loop card words e tops₀ marks₀ s₀ seen₀ p₀ tops marks s seen p =
+    Standing card words (e .0) (p .0) s seen tops marks × (length tops ≡ length tops₀) × (length marks ≡ length marks₀)
 
 abbrev μ-loop : tie.MeasureT-loop
-μ-loop card words e tops₀ marks₀ s₀ p₀ tops marks s p = suc (e .0) - p .0
+μ-loop card words e tops₀ marks₀ s₀ seen₀ p₀ tops marks s seen p = suc (e .0) - p .0
 
 loop-holds : tie.Need-loop-holds Inv-loop μ-loop
 loop-holds c =

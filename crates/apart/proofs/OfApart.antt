@@ -1,0 +1,286 @@
+-- Rule 22 of two clauses, of a place against all before it, and what is known as the places go by. Assumes nothing.
+use Prim.Native.Nat.{ℕ, zero, suc, _+_, _-_, _%_, _^_, _≤_, _<_, min}
+use mathlib.Core.Path.{_≡_, refl, sym, ap, _∙_, subst}
+use mathlib.Core.Bool.{Bool, true, false, cond, not, _&&_, _||_}
+use mathlib.Core.List.{List, [], _∷_}
+use mathlib.Core.Logic.{_⊎_, inl, inr, ⊎-elim}
+use native.Mathlib.Nat.{le-of-suc-le-suc, eq-or-lt-of-le, le-refl, le-step}
+use native.Mathlib.Omega.{arith}
+use lib.Dec.{eqb, ltb}
+use lib.ListN.{length}
+use borrow.Author.Tests.{eqb-true, eqb-false, eq-eqb, ne-eqb, ltb-true, ltb-false, leb-true, leb-false, le-leb}
+use Rattle.laws.proofs.OfCases.{impossible}
+use Rattle.laws.proofs.OfTests.{both, both-hold, neither, by-test}
+use Rattle.units.specs.declared.Quadwords.{Quadwords}
+use Rattle.units.specs.declared.Slots.{Slots}
+use Rattle.units.specs.Units.{quadwords, slots, lowAt, highAt, slotsLength, fetchesLength, rangeEnd, isAtMost}
+use Rattle.units.specs.Code.{quadwordsIn64}
+use Rattle.checks.specs.declared.Place.the-variants.{Quadword}
+use Rattle.checks.specs.declared.Verdict.{Verdict}
+use Rattle.checks.specs.declared.Verdict.the-variants.{Accepted, Refused}
+use Rattle.checks.specs.Checks.{Check, ofPair, firstBroken, below}
+use Rattle.checks.proofs.OfChecks.{hit, miss, first-clean, rest-clean, joined-clean, joined-refused, below-next, below-each}
+use Rattle.opcodes.specs.declared.cf.FetchKind.{FetchKind}
+use Rattle.opcodes.specs.declared.cf.Control.{Control}
+use Rattle.opcodes.specs.declared.cf.Control.the-variants.{NotTaken, Nop, Fetch, Branch, Export, Alu}
+use Rattle.section.specs.declared.Clause.{Clause}
+use Rattle.section.specs.declared.Clause.the-variants.{NoClause, AluClause, FetchClause}
+use Rattle.section.specs.Control.{controlOf, controlAt}
+use Rattle.section.specs.Rules.{clauseOf, clauseAt}
+use Rattle.apart.specs.declared.ranges.Range.{Range}
+use Rattle.apart.specs.declared.Seen.{Seen}
+use Rattle.apart.specs.declared.Seen.the-variants.{Rising, Asked}
+use Rattle.apart.specs.Apart.{startOf, lengthOf, behind, sameRange, disjoint, halfShared, oddFetch, sharedChecks, layoutChecks, SameOrDisjoint}
+use Rattle.apart.specs.Code.{rangeOf, ApartFrom, Fit, FirstUnfit, FirstNotApart, quadwordsIn, markedIn, rises, highest, SeenWith, SeenBefore, names}
+
+-- ---- two clauses
+
+module _ (a b : Clause) where
+  pub not-half : halfShared a b ≡ false → SameOrDisjoint a b
+  unfolding halfShared sameRange disjoint
+  not-half h =
+      by-test (eqb (startOf a .0) (startOf b .0) && eqb (lengthOf a .0) (lengthOf b .0))
+      (λ e. let z = both _ _ e in inl (eqb-true _ _ (z .0), eqb-true _ _ (z .1)))
+      (λ e.
+      by-test (isAtMost (behind a) (startOf b)) (λ f. inr (inl (leb-true _ _ f)))
+      (λ f.
+      by-test (isAtMost (behind b) (startOf a)) (λ g. inr (inr (leb-true _ _ g)))
+      (λ g. let x : not false ≡ false = rw (e, f, g) at h in impossible cc)))
+
+  pub same-or-disjoint : SameOrDisjoint a b → halfShared a b ≡ false
+  unfolding halfShared sameRange disjoint
+  same-or-disjoint (inl s) = rw (eq-eqb _ _ (s .0), eq-eqb _ _ (s .1))
+  same-or-disjoint (inr (inl l)) = let x = le-leb (behind a .0) (startOf b .0) l in by (eqb (startOf a .0) (startOf b .0) && eqb (lengthOf a .0) (lengthOf b .0)) x
+    where
+      by : (t : Bool) → isAtMost (behind a) (startOf b) ≡ true → not (t || (isAtMost (behind a) (startOf b) || isAtMost (behind b) (startOf a))) ≡ false
+      by true x = refl
+      by false x = rw x
+  same-or-disjoint (inr (inr l)) = let x = le-leb (behind b .0) (startOf a .0) l in by (eqb (startOf a .0) (startOf b .0) && eqb (lengthOf a .0) (lengthOf b .0)) (isAtMost (behind a) (startOf b)) x
+    where
+      by : (t u : Bool) → isAtMost (behind b) (startOf a) ≡ true → not (t || (u || isAtMost (behind b) (startOf a))) ≡ false
+      by true u x = refl
+      by false true x = refl
+      by false false x = rw x
+
+  -- in part: neither the same nor disjoint
+  pub record InPart : Type 0 where
+    pub first-in : startOf a .0 < behind b .0
+    pub second-in : startOf b .0 < behind a .0
+    pub not-same : startOf a .0 ≡ startOf b .0 → lengthOf a .0 ≡ lengthOf b .0 → ⊥
+
+  pub half-in-part : halfShared a b ≡ true → InPart
+  half-in-part h =
+      let no : SameOrDisjoint a b → ⊥ = λ s. impossible (let x = sym h ∙ same-or-disjoint s in cc) in
+      record {
+        first-in = by-test (isAtMost (behind b) (startOf a)) (λ e. absurd (no (inr (inr (leb-true _ _ e))))) (λ e. leb-false _ _ e);
+        second-in = by-test (isAtMost (behind a) (startOf b)) (λ e. absurd (no (inr (inl (leb-true _ _ e))))) (λ e. leb-false _ _ e);
+        not-same = λ s l. no (inl (s, l));
+      }
+
+  pub in-part-half : InPart → halfShared a b ≡ true
+  in-part-half x =
+      by-test (halfShared a b) (λ e. e)
+      (λ e.
+      absurd
+      (⊎-elim (λ s. x .not-same (s .0) (s .1)) (λ d. ⊎-elim (λ l. omega (arith, x .second-in)) (λ l. omega (arith, x .first-in)) d)
+      (not-half e)))
+
+pub other-way : (a b : Clause) → SameOrDisjoint a b → SameOrDisjoint b a
+other-way a b (inl s) = inl (sym (s .0), sym (s .1))
+other-way a b (inr (inl l)) = inr (inr l)
+other-way a b (inr (inr l)) = inr (inl l)
+
+-- ---- a place against all before it
+
+module _ (opens : ℕ → Clause) (p : ℕ) where
+  abbrev one : ℕ → List Check
+  one q = ofPair 22 p (halfShared (opens q) (opens p)) ∷ []
+
+  pub shared-clean : firstBroken (sharedChecks opens p) ≡ Accepted → ApartFrom opens p
+  unfolding sharedChecks
+  shared-clean h q l = first-clean _ _ (below-each one p q h l)
+
+  clean-below : (n : ℕ) → ((q : ℕ) → q < n → halfShared (opens q) (opens p) ≡ false) → firstBroken (below one n) ≡ Accepted
+  unfolding below firstBroken
+  clean-below zero h = refl
+  clean-below (suc n) h = below-next one n (clean-below n (λ q l. h q (le-step l))) (rw (h n (le-refl (suc n))))
+
+  pub apart-clean : ApartFrom opens p → firstBroken (sharedChecks opens p) ≡ Accepted
+  unfolding sharedChecks
+  apart-clean h = clean-below p h
+
+  -- there is but one answer else
+  either : (n : ℕ) → (firstBroken (below one n) ≡ Accepted) ⊎ (firstBroken (below one n) ≡ Refused 22 (Quadword (quadwords p)) (slots 0))
+  unfolding below firstBroken
+  either zero = inl refl
+  either (suc n) =
+      ⊎-elim
+      (λ c.
+      by-test (halfShared (opens n) (opens p)) (λ e. inr (joined-clean (below one n) (one n) c ∙ rw e))
+      (λ e. inl (joined-clean (below one n) (one n) c ∙ rw e)))
+      (λ r. inr (joined-refused (below one n) (one n) r))
+      (either n)
+
+  pub not-apart-refused : (ApartFrom opens p → ⊥) → firstBroken (sharedChecks opens p) ≡ Refused 22 (Quadword (quadwords p)) (slots 0)
+  unfolding sharedChecks
+  not-apart-refused h = ⊎-elim (λ c. absurd (h (λ q l. first-clean _ _ (below-each one p q c l)))) (λ r. r) (either p)
+
+-- ---- the clauses of a section: how long they are, by the width of COUNT, and where they start, by that of ADDR
+
+pub record Sized (k : Clause) : Type 0 where
+  pub few : lengthOf k .0 ≤ 128
+  pub low : startOf k .0 < 2 ^ 32
+  pub none : lengthOf k .0 ≡ 0 → startOf k .0 ≡ 0
+
+pub clause-sized : (c : Control) (lo hi : ℕ) → Sized (clauseOf c lo hi)
+unfolding clauseOf
+clause-sized NotTaken lo hi = record { few = omega arith; low = omega arith; none = λ z. refl }
+clause-sized Nop lo hi = record { few = omega arith; low = omega arith; none = λ z. refl }
+clause-sized (Fetch kind) lo hi = record { few = omega arith; low = omega arith; none = λ z. absurd (omega arith) }
+clause-sized (Branch b) lo hi = record { few = omega arith; low = omega arith; none = λ z. refl }
+clause-sized Export lo hi = record { few = omega arith; low = omega arith; none = λ z. refl }
+clause-sized (Alu push pops) lo hi = record { few = omega arith; low = omega arith; none = λ z. absurd (omega arith) }
+
+pub sized-at : (w : List ℕ) (p : ℕ) → Sized (clauseAt w p)
+unfolding clauseAt
+sized-at w p = clause-sized (controlAt w p) (lowAt w p) (highAt w p)
+
+-- ---- a clause's range, as the code has it
+
+module _ {k : Clause} where
+  pub range-none : k ≡ NoClause → record { start = quadwords 0; size = quadwords 0 } ≡ rangeOf k
+  range-none e = rw e
+
+  pub range-slots :
+      {s : Quadwords} {n : Slots} {push : Bool} {mode0 mode1 : ℕ} {size : Quadwords} → k ≡ AluClause s n push mode0 mode1 → n .0 < 2 ^ 64
+      → size ≡ slotsLength n → record { start = s; size = size } ≡ rangeOf k
+  range-slots {s} {n} {size = size} e l f =
+      let exact : size ≡ quadwordsIn64 (slotsLength n) = f ∙ ap quadwords (omega arith) in
+      rw e (λ i. record { start = s; size = exact i })
+
+  pub range-fetches :
+      {s : Quadwords} {n : Slots} {kind : FetchKind} {size : Quadwords} → k ≡ FetchClause s n kind → size ≡ quadwordsIn64 (fetchesLength n)
+      → record { start = s; size = size } ≡ rangeOf k
+  range-fetches {s} e f = rw e (λ i. record { start = s; size = f i })
+
+-- the range of the pair that was read
+pub range-here :
+    (w : List ℕ) (p : ℕ) {low high : ℕ} {control : Control} {k : Clause} {r : Range} → low ≡ lowAt w p → high ≡ highAt w p → control ≡ controlOf high
+    → k ≡ clauseOf control low high → r ≡ rangeOf k → r ≡ rangeOf (clauseAt w p)
+unfolding controlAt clauseAt
+range-here w p a b c d f =
+    f ∙ ap rangeOf (d ∙ (λ i. clauseOf (c i) (a i) (b i)) ∙ (λ i. clauseOf (controlOf (b i)) (lowAt w p) (highAt w p)))
+
+-- ---- with one clause more, from what the tests answered
+
+module _ (w : List ℕ) (e : ℕ) {seen : Seen} (k : Clause) where
+  pub still-asked : {r : Quadwords} → seen ≡ Asked r → SeenWith w e seen k (Asked r)
+  still-asked f = rw f refl
+
+  module _ {b : Quadwords} (f : seen ≡ Rising b) {r : Range} (here : r ≡ rangeOf k) where
+    start-is : r .start ≡ startOf k
+    start-is = ap (λ (x : Range). x .start) here
+
+    size-is : r .size .0 ≡ min (lengthOf k .0) (2 ^ 64 - 1)
+    size-is = ap (λ (x : Range). x .size .0) here
+
+    pub seen-empty : r .size .0 ≡ 0 → SeenWith w e seen k (Rising b)
+    seen-empty z =
+        let n : lengthOf k .0 ≡ 0 = omega (arith, size-is) in
+        rw (f, eq-eqb (lengthOf k .0) 0 n) (refl, refl)
+
+    module _ (z : r .size .0 ≡ 0 → ⊥) {t : Bool} (g : t ≡ isAtMost b (r .start)) where
+      some : eqb (lengthOf k .0) 0 ≡ false
+      some = ne-eqb (lengthOf k .0) 0 (λ n. z (omega (arith, size-is)))
+
+      told : (u : Bool) → t ≡ u → isAtMost b (startOf k) ≡ u
+      told u h = ap (isAtMost b) (sym start-is) ∙ sym g ∙ h
+
+      pub seen-rising : {c : Quadwords} → t ≡ true → c ≡ quadwordsIn64 (rangeEnd (r .start) (r .size)) → SeenWith w e seen k (Rising c)
+      seen-rising {c} h q =
+          let exact : c ≡ quadwordsIn64 (behind k) =
+          q ∙ ap (λ (x : Quadwords). quadwordsIn64 (rangeEnd x (r .size))) start-is ∙ ap quadwords (omega (arith, size-is)) in
+          rw (f, some) (told true h, exact)
+
+      pub seen-asked : {s : Quadwords} → t ≡ false → FirstNotApart w e (s .0) → SeenWith w e seen k (Asked s)
+      seen-asked h q = rw (f, some) (told false h, q)
+
+-- ---- what is known as the places go by
+
+pub seen-first : (w : List ℕ) (e : ℕ) → SeenBefore w e 0 (Rising (quadwords 0))
+seen-first w e q l = absurd (omega arith)
+
+module _ (w : List ℕ) (e p : ℕ) where
+  -- the quadword behind all, with one clause more
+  risen :
+      (b c : Quadwords) → SeenBefore w e p (Rising b) → rises b (clauseAt w p) ≡ true → c ≡ highest b (clauseAt w p)
+      → (b .0 ≤ c .0) × (behind (clauseAt w p) .0 ≤ c .0)
+  risen b c h r f = by (eqb (lengthOf (clauseAt w p) .0) 0) refl r f
+    where
+      k : Clause
+      k = clauseAt w p
+
+      by : (t : Bool) → eqb (lengthOf k .0) 0 ≡ t → t || isAtMost b (startOf k) ≡ true → c ≡ cond t b (quadwords (min (behind k .0) (2 ^ 64 - 1)))
+          → (b .0 ≤ c .0) × (behind k .0 ≤ c .0)
+      by true z r f =
+          let n = eqb-true (lengthOf k .0) 0 z in
+          let s = sized-at w p .none n in
+          let d : c .0 ≡ b .0 = ap (λ (x : Quadwords). x .0) f in
+          (omega arith, omega arith)
+      by false z r f =
+          let l = leb-true (b .0) (startOf k .0) r in
+          let d : c .0 ≡ min (behind k .0) (2 ^ 64 - 1) = ap (λ (x : Quadwords). x .0) f in
+          (omega (arith, sized-at w p .low, sized-at w p .few), omega (arith, sized-at w p .low, sized-at w p .few))
+
+  pub seen-next : (s t : Seen) → SeenBefore w e p s → SeenWith w e s (clauseAt w p) t → SeenBefore w e (suc p) t
+  seen-next (Rising b) (Rising c) h f =
+      let z = risen b c h (f .0) (f .1) in
+      λ q l. ⊎-elim (λ x. rw x (z .1)) (λ x. omega (arith, h q x, z .0)) (eq-or-lt-of-le (le-of-suc-le-suc l))
+  seen-next (Rising b) (Asked r) h f = f .1
+  seen-next (Asked r) (Rising c) h f = absurd f
+  seen-next (Asked r) (Asked s) h f = rw f h
+
+  -- the rule at p, from what is known with its clause: where nothing before p breaks it, and p's clause lies in the words
+  module _ (s t : Seen) (h : SeenBefore w e p s) (f : SeenWith w e s (clauseAt w p) t) (fit : (q : ℕ) → q < p → Fit (markedIn w) (clauseAt w) q)
+      (near : p < min (suc e) (quadwordsIn w)) (inside : behind (clauseAt w p) .0 ≤ markedIn w) where
+    first-named : (r : Quadwords) → FirstNotApart w e (r .0) → eqb (r .0) p ≡ true → ApartFrom (clauseAt w) p → ⊥
+    first-named r u n a =
+        let e : r .0 ≡ p = eqb-true (r .0) p n in
+        u .unfit-there (omega arith) (rw e record { inside = inside; apart = a })
+
+    first-unnamed : (r : Quadwords) → FirstNotApart w e (r .0) → eqb (r .0) p ≡ false → ApartFrom (clauseAt w) p
+    first-unnamed r u n =
+        by-test (ltb p (r .0)) (λ l. u .fit-before p (ltb-true p (r .0) l) .apart)
+        (λ l.
+        let least : r .0 ≤ p = ltb-false p (r .0) l in
+        let less : r .0 < p = ⊎-elim (λ x. absurd (eqb-false (r .0) p n x)) (λ x. x) (eq-or-lt-of-le least) in
+        absurd (u .unfit-there (omega arith) (fit (r .0) less)))
+
+    -- rising: all before end by the start
+    rising-apart : (b c : Quadwords) → SeenBefore w e p (Rising b) → SeenWith w e (Rising b) (clauseAt w p) (Rising c) → ApartFrom (clauseAt w) p
+    rising-apart b c h f q l =
+        same-or-disjoint (clauseAt w q) (clauseAt w p)
+        (by-test (eqb (lengthOf (clauseAt w p) .0) 0)
+        (λ z.
+        let n = eqb-true (lengthOf (clauseAt w p) .0) 0 z in
+        let s = sized-at w p .none n in
+        inr (inr (omega arith)))
+        (λ z. let r : isAtMost b (startOf (clauseAt w p)) ≡ true = rw z at (f .0) in inr (inl (omega (arith, h q l, leb-true (b .0) (startOf (clauseAt w p) .0) r)))))
+
+    pub unnamed-apart : names t (quadwords p) ≡ false → ApartFrom (clauseAt w) p
+    unnamed-apart n = by s t h f n
+      where
+        by : (s t : Seen) → SeenBefore w e p s → SeenWith w e s (clauseAt w p) t → names t (quadwords p) ≡ false → ApartFrom (clauseAt w) p
+        by (Rising b) (Rising c) h f n = rising-apart b c h f
+        by (Rising b) (Asked r) h f n = first-unnamed r (f .1) n
+        by (Asked r) (Rising c) h f n = absurd f
+        by (Asked r) (Asked u) h f n = first-unnamed u (rw f h) n
+
+    pub named-not-apart : names t (quadwords p) ≡ true → ApartFrom (clauseAt w) p → ⊥
+    named-not-apart n = by s t h f n
+      where
+        by : (s t : Seen) → SeenBefore w e p s → SeenWith w e s (clauseAt w p) t → names t (quadwords p) ≡ true → ApartFrom (clauseAt w) p → ⊥
+        by (Rising b) (Rising c) h f n a = impossible cc
+        by (Rising b) (Asked r) h f n a = first-named r (f .1) n a
+        by (Asked r) (Rising c) h f n a = absurd f
+        by (Asked r) (Asked u) h f n a = first-named u (rw f h) n a
