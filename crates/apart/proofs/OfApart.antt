@@ -31,7 +31,7 @@ use Rattle.apart.specs.declared.ranges.Range.{Range}
 use Rattle.apart.specs.declared.Seen.{Seen}
 use Rattle.apart.specs.declared.Seen.the-variants.{Rising, Asked}
 use Rattle.apart.specs.Apart.{startOf, lengthOf, behind, sameRange, disjoint, halfShared, oddFetch, sharedChecks, layoutChecks, SameOrDisjoint}
-use Rattle.apart.specs.Code.{rangeOf, ApartFrom, Fit, FirstUnfit, FirstNotApart, quadwordsIn, markedIn, rises, highest, SeenWith, SeenBefore, names}
+use Rattle.apart.specs.Code.{rangeOf, ApartFrom, Fit, FirstUnfit, FirstNotApart, quadwordsIn, markedIn, SeenWith, opens-none, rises, turns, is-known, SeenBefore, isRising, upTo, names}
 
 -- ---- two clauses
 
@@ -173,37 +173,43 @@ range-here w p a b c d f =
 
 -- ---- with one clause more, from what the tests answered
 
-module _ (w : List ℕ) (e : ℕ) {seen : Seen} (k : Clause) where
-  pub still-asked : {r : Quadwords} → seen ≡ Asked r → SeenWith w e seen k (Asked r)
-  still-asked f = rw f refl
+-- of a clause that starts at s and has so many quadwords
+module _ (w : List ℕ) (e : ℕ) (k : Clause) (some : k ≡ NoClause → ⊥) {s : Quadwords} (starts : s ≡ startOf k) {t : Bool} where
+  pub goes-on-rising :
+      (seen : Seen) {c : Quadwords} {r : Seen} → t ≡ isRising seen s → t ≡ true → c ≡ quadwordsIn64 (behind k) → r ≡ upTo seen c
+      → SeenWith w e k seen r
+  goes-on-rising (Rising b) f h q g =
+      let l = leb-true (b .0) (startOf k .0) (ap (isAtMost b) (sym starts) ∙ sym f ∙ h) in
+      subst (SeenWith w e k (Rising b)) (sym g) (rises some l q)
+  goes-on-rising (Asked r) f h q g = subst (SeenWith w e k (Asked r)) (sym g) (is-known some)
 
-  module _ {b : Quadwords} (f : seen ≡ Rising b) {r : Range} (here : r ≡ rangeOf k) where
-    start-is : r .start ≡ startOf k
-    start-is = ap (λ (x : Range). x .start) here
+  pub turns-there :
+      (seen : Seen) {r : Quadwords} → t ≡ isRising seen s → t ≡ false → FirstNotApart w e (r .0) → SeenWith w e k seen (Asked r)
+  turns-there (Rising b) f h q = turns some (leb-false (b .0) (startOf k .0) (ap (isAtMost b) (sym starts) ∙ sym f ∙ h)) q
+  turns-there (Asked r) f h q = impossible (let x : true ≡ false = sym f ∙ h in cc)
 
-    size-is : r .size .0 ≡ min (lengthOf k .0) (2 ^ 64 - 1)
-    size-is = ap (λ (x : Range). x .size .0) here
+-- a clause of slots, or of fetches, is one, and ends where the sums say
+module _ {k : Clause} {s : Quadwords} {n : Slots} where
+  pub slots-open : {push : Bool} {mode0 mode1 : ℕ} → k ≡ AluClause s n push mode0 mode1 → (k ≡ NoClause → ⊥) × (s ≡ startOf k)
+  slots-open e = (λ z. impossible (let x = sym e ∙ z in cc), ap startOf (sym e))
 
-    pub seen-empty : r .size .0 ≡ 0 → SeenWith w e seen k (Rising b)
-    seen-empty z =
-        let n : lengthOf k .0 ≡ 0 = omega (arith, size-is) in
-        rw (f, eq-eqb (lengthOf k .0) 0 n) (refl, refl)
+  pub slots-end :
+      {push : Bool} {mode0 mode1 : ℕ} {size c : Quadwords} → k ≡ AluClause s n push mode0 mode1 → size ≡ slotsLength n
+      → c ≡ quadwordsIn64 (rangeEnd s size) → c ≡ quadwordsIn64 (behind k)
+  slots-end e f g =
+      g ∙ ap (λ (x : Quadwords). quadwordsIn64 (rangeEnd s x)) f ∙ ap (λ (x : Clause). quadwordsIn64 (behind x)) (sym e)
 
-    module _ (z : r .size .0 ≡ 0 → ⊥) {t : Bool} (g : t ≡ isAtMost b (r .start)) where
-      some : eqb (lengthOf k .0) 0 ≡ false
-      some = ne-eqb (lengthOf k .0) 0 (λ n. z (omega (arith, size-is)))
+  pub fetches-open : {kind : FetchKind} → k ≡ FetchClause s n kind → (k ≡ NoClause → ⊥) × (s ≡ startOf k)
+  fetches-open e = (λ z. impossible (let x = sym e ∙ z in cc), ap startOf (sym e))
 
-      told : (u : Bool) → t ≡ u → isAtMost b (startOf k) ≡ u
-      told u h = ap (isAtMost b) (sym start-is) ∙ sym g ∙ h
-
-      pub seen-rising : {c : Quadwords} → t ≡ true → c ≡ quadwordsIn64 (rangeEnd (r .start) (r .size)) → SeenWith w e seen k (Rising c)
-      seen-rising {c} h q =
-          let exact : c ≡ quadwordsIn64 (behind k) =
-          q ∙ ap (λ (x : Quadwords). quadwordsIn64 (rangeEnd x (r .size))) start-is ∙ ap quadwords (omega (arith, size-is)) in
-          rw (f, some) (told true h, exact)
-
-      pub seen-asked : {s : Quadwords} → t ≡ false → FirstNotApart w e (s .0) → SeenWith w e seen k (Asked s)
-      seen-asked h q = rw (f, some) (told false h, q)
+  pub fetches-end :
+      {kind : FetchKind} {size c : Quadwords} → k ≡ FetchClause s n kind → size ≡ quadwordsIn64 (fetchesLength n)
+      → c ≡ quadwordsIn64 (rangeEnd s size) → c ≡ quadwordsIn64 (behind k)
+  fetches-end e f g =
+      g
+      ∙ ap (λ (x : Quadwords). quadwordsIn64 (rangeEnd s x)) f
+      ∙ ap quadwords (omega arith)
+      ∙ ap (λ (x : Clause). quadwordsIn64 (behind x)) (sym e)
 
 -- ---- what is known as the places go by
 
@@ -211,37 +217,30 @@ pub seen-first : (w : List ℕ) (e : ℕ) → SeenBefore w e 0 (Rising (quadword
 seen-first w e q l = absurd (omega arith)
 
 module _ (w : List ℕ) (e p : ℕ) where
-  -- the quadword behind all, with one clause more
-  risen :
-      (b c : Quadwords) → SeenBefore w e p (Rising b) → rises b (clauseAt w p) ≡ true → c ≡ highest b (clauseAt w p)
-      → (b .0 ≤ c .0) × (behind (clauseAt w p) .0 ≤ c .0)
-  risen b c h r f = by (eqb (lengthOf (clauseAt w p) .0) 0) refl r f
-    where
-      k : Clause
-      k = clauseAt w p
+  -- the places up to p, from those before it
+  and-here :
+      (b : ℕ) → ((q : ℕ) → q < p → behind (clauseAt w q) .0 ≤ b) → behind (clauseAt w p) .0 ≤ b → (q : ℕ) → q < suc p
+      → behind (clauseAt w q) .0 ≤ b
+  and-here b h k q l = ⊎-elim (λ x. rw x k) (h q) (eq-or-lt-of-le (le-of-suc-le-suc l))
 
-      by : (t : Bool) → eqb (lengthOf k .0) 0 ≡ t → t || isAtMost b (startOf k) ≡ true → c ≡ cond t b (quadwords (min (behind k .0) (2 ^ 64 - 1)))
-          → (b .0 ≤ c .0) × (behind k .0 ≤ c .0)
-      by true z r f =
-          let n = eqb-true (lengthOf k .0) 0 z in
-          let s = sized-at w p .none n in
-          let d : c .0 ≡ b .0 = ap (λ (x : Quadwords). x .0) f in
-          (omega arith, omega arith)
-      by false z r f =
-          let l = leb-true (b .0) (startOf k .0) r in
-          let d : c .0 ≡ min (behind k .0) (2 ^ 64 - 1) = ap (λ (x : Quadwords). x .0) f in
-          (omega (arith, sized-at w p .low, sized-at w p .few), omega (arith, sized-at w p .low, sized-at w p .few))
+  none-here : (s : Seen) → clauseAt w p ≡ NoClause → SeenBefore w e p s → SeenBefore w e (suc p) s
+  none-here (Rising b) z h =
+      let n : behind (clauseAt w p) .0 ≡ 0 = ap (λ (x : Clause). behind x .0) z in
+      and-here (b .0) h (omega arith)
+  none-here (Asked r) z h = h
 
-  pub seen-next : (s t : Seen) → SeenBefore w e p s → SeenWith w e s (clauseAt w p) t → SeenBefore w e (suc p) t
-  seen-next (Rising b) (Rising c) h f =
-      let z = risen b c h (f .0) (f .1) in
-      λ q l. ⊎-elim (λ x. rw x (z .1)) (λ x. omega (arith, h q x, z .0)) (eq-or-lt-of-le (le-of-suc-le-suc l))
-  seen-next (Rising b) (Asked r) h f = f .1
-  seen-next (Asked r) (Rising c) h f = absurd f
-  seen-next (Asked r) (Asked s) h f = rw f h
+  pub seen-next : (s t : Seen) → SeenBefore w e p s → SeenWith w e (clauseAt w p) s t → SeenBefore w e (suc p) t
+  seen-next s t h (opens-none z) = none-here s z h
+  seen-next s t h (rises {b} {c} some l f) =
+      let d : c .0 ≡ min (behind (clauseAt w p) .0) (2 ^ 64 - 1) = ap (λ (x : Quadwords). x .0) f in
+      let small = sized-at w p in
+      let exact : c .0 ≡ behind (clauseAt w p) .0 = omega (arith, small .low, small .few) in
+      and-here (c .0) (λ q k. omega (arith, h q k)) (omega arith)
+  seen-next s t h (turns some l f) = f
+  seen-next s t h (is-known some) = h
 
   -- the rule at p, from what is known with its clause: where nothing before p breaks it, and p's clause lies in the words
-  module _ (s t : Seen) (h : SeenBefore w e p s) (f : SeenWith w e s (clauseAt w p) t) (fit : (q : ℕ) → q < p → Fit (markedIn w) (clauseAt w) q)
+  module _ (s t : Seen) (h : SeenBefore w e p s) (f : SeenWith w e (clauseAt w p) s t) (fit : (q : ℕ) → q < p → Fit (markedIn w) (clauseAt w) q)
       (near : p < min (suc e) (quadwordsIn w)) (inside : behind (clauseAt w p) .0 ≤ markedIn w) where
     first-named : (r : Quadwords) → FirstNotApart w e (r .0) → eqb (r .0) p ≡ true → ApartFrom (clauseAt w) p → ⊥
     first-named r u n a =
@@ -256,31 +255,34 @@ module _ (w : List ℕ) (e p : ℕ) where
         let less : r .0 < p = ⊎-elim (λ x. absurd (eqb-false (r .0) p n x)) (λ x. x) (eq-or-lt-of-le least) in
         absurd (u .unfit-there (omega arith) (fit (r .0) less)))
 
+    empty-apart : clauseAt w p ≡ NoClause → ApartFrom (clauseAt w) p
+    empty-apart z q l =
+        let n : behind (clauseAt w p) .0 ≡ 0 = ap (λ (x : Clause). behind x .0) z in
+        same-or-disjoint (clauseAt w q) (clauseAt w p) (inr (inr (omega arith)))
+
     -- rising: all before end by the start
-    rising-apart : (b c : Quadwords) → SeenBefore w e p (Rising b) → SeenWith w e (Rising b) (clauseAt w p) (Rising c) → ApartFrom (clauseAt w) p
-    rising-apart b c h f q l =
-        same-or-disjoint (clauseAt w q) (clauseAt w p)
-        (by-test (eqb (lengthOf (clauseAt w p) .0) 0)
-        (λ z.
-        let n = eqb-true (lengthOf (clauseAt w p) .0) 0 z in
-        let s = sized-at w p .none n in
-        inr (inr (omega arith)))
-        (λ z. let r : isAtMost b (startOf (clauseAt w p)) ≡ true = rw z at (f .0) in inr (inl (omega (arith, h q l, leb-true (b .0) (startOf (clauseAt w p) .0) r)))))
+    rising-apart : {b : Quadwords} → SeenBefore w e p (Rising b) → b .0 ≤ startOf (clauseAt w p) .0 → ApartFrom (clauseAt w) p
+    rising-apart h m q l = same-or-disjoint (clauseAt w q) (clauseAt w p) (inr (inl (omega (arith, h q l))))
+
+    -- a place that opens no clause is not asked for
+    none-named : (s : Seen) → SeenBefore w e p s → clauseAt w p ≡ NoClause → names s (quadwords p) ≡ true → ⊥
+    none-named (Rising b) h z n = impossible cc
+    none-named (Asked r) h z n = first-named r h n (empty-apart z)
 
     pub unnamed-apart : names t (quadwords p) ≡ false → ApartFrom (clauseAt w) p
     unnamed-apart n = by s t h f n
       where
-        by : (s t : Seen) → SeenBefore w e p s → SeenWith w e s (clauseAt w p) t → names t (quadwords p) ≡ false → ApartFrom (clauseAt w) p
-        by (Rising b) (Rising c) h f n = rising-apart b c h f
-        by (Rising b) (Asked r) h f n = first-unnamed r (f .1) n
-        by (Asked r) (Rising c) h f n = absurd f
-        by (Asked r) (Asked u) h f n = first-unnamed u (rw f h) n
+        by : (s t : Seen) → SeenBefore w e p s → SeenWith w e (clauseAt w p) s t → names t (quadwords p) ≡ false → ApartFrom (clauseAt w) p
+        by s t h (opens-none z) n = empty-apart z
+        by s t h (rises some l c) n = rising-apart h l
+        by s t h (turns {b} {r} some l u) n = first-unnamed r u n
+        by s t h (is-known {r} some) n = first-unnamed r h n
 
     pub named-not-apart : names t (quadwords p) ≡ true → ApartFrom (clauseAt w) p → ⊥
     named-not-apart n = by s t h f n
       where
-        by : (s t : Seen) → SeenBefore w e p s → SeenWith w e s (clauseAt w p) t → names t (quadwords p) ≡ true → ApartFrom (clauseAt w) p → ⊥
-        by (Rising b) (Rising c) h f n a = impossible cc
-        by (Rising b) (Asked r) h f n a = first-named r (f .1) n a
-        by (Asked r) (Rising c) h f n a = absurd f
-        by (Asked r) (Asked u) h f n a = first-named u (rw f h) n a
+        by : (s t : Seen) → SeenBefore w e p s → SeenWith w e (clauseAt w p) s t → names t (quadwords p) ≡ true → ApartFrom (clauseAt w) p → ⊥
+        by s t h (opens-none z) n a = none-named s h z n
+        by s t h (rises some l c) n a = impossible cc
+        by s t h (turns {b} {r} some l u) n a = first-named r u n a
+        by s t h (is-known {r} some) n a = first-named r h n a

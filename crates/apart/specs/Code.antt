@@ -2,7 +2,7 @@
 -- quadword behind them all; from the first that does not, it is the first place that breaks the rule.
 use Prim.Native.Nat.{ℕ, suc, _+_, _≤_, _<_, min}
 use mathlib.Core.Path.{_≡_}
-use mathlib.Core.Bool.{Bool, true, false, cond, _||_}
+use mathlib.Core.Bool.{Bool, true, false}
 use mathlib.Core.List.{List}
 use lib.Dec.{eqb}
 use lib.ListN.{length, getD}
@@ -10,6 +10,7 @@ use Rattle.units.specs.declared.Quadwords.{Quadwords}
 use Rattle.units.specs.Units.{words, wholeQuadwords, isAtMost}
 use Rattle.units.specs.Code.{quadwordsIn64}
 use Rattle.section.specs.declared.Clause.{Clause}
+use Rattle.section.specs.declared.Clause.the-variants.{NoClause}
 use Rattle.section.specs.Rules.{clauseAt}
 use Rattle.apart.specs.Apart.{startOf, lengthOf, behind, halfShared}
 use Rattle.apart.specs.declared.ranges.Range.{Range}
@@ -50,24 +51,28 @@ FirstNotApart w e r = FirstUnfit (markedIn w) (clauseAt w) (min (suc e) (quadwor
 
 -- ---- what is known of the clauses so far
 
--- a clause with any quadwords starts at a quadword or behind it; and the quadword behind both
-abbrev pub rises : Quadwords → Clause → Bool
-rises b k = eqb (lengthOf k .0) 0 || isAtMost b (startOf k)
-
-abbrev pub highest : Quadwords → Clause → Quadwords
-highest b k = cond (eqb (lengthOf k .0) 0) b (quadwordsIn64 (behind k))
-
--- with one clause more
-abbrev pub SeenWith : List ℕ → ℕ → Seen → Clause → Seen → Type 0
-SeenWith w e (Rising b) k (Rising c) = (rises b k ≡ true) × (c ≡ highest b k)
-SeenWith w e (Rising b) k (Asked r) = (rises b k ≡ false) × FirstNotApart w e (r .0)
-SeenWith w e (Asked r) k (Rising c) = ⊥
-SeenWith w e (Asked r) k (Asked s) = s ≡ r
+-- with one clause more: none is opened; it starts at or behind the end of all before; it does not, and the first place is asked for; that is
+-- known already
+pub data SeenWith (w : List ℕ) (e : ℕ) (k : Clause) : Seen → Seen → Type 0 where
+  opens-none : {s : Seen} → k ≡ NoClause → SeenWith w e k s s
+  rises :
+      {b c : Quadwords} → (k ≡ NoClause → ⊥) → b .0 ≤ startOf k .0 → c ≡ quadwordsIn64 (behind k) → SeenWith w e k (Rising b) (Rising c)
+  turns : {b r : Quadwords} → (k ≡ NoClause → ⊥) → startOf k .0 < b .0 → FirstNotApart w e (r .0) → SeenWith w e k (Rising b) (Asked r)
+  is-known : {r : Quadwords} → (k ≡ NoClause → ⊥) → SeenWith w e k (Asked r) (Asked r)
 
 -- what that says of the places before p
 abbrev pub SeenBefore : List ℕ → ℕ → ℕ → Seen → Type 0
 SeenBefore w e p (Rising b) = (q : ℕ) → q < p → behind (clauseAt w q) .0 ≤ b .0
 SeenBefore w e p (Asked r) = FirstNotApart w e (r .0)
+
+-- whether a start is at or behind the end of all before, or that does not matter any more; and what is known once a clause ends there
+abbrev pub isRising : Seen → Quadwords → Bool
+isRising (Rising b) start = isAtMost b start
+isRising (Asked r) start = true
+
+abbrev pub upTo : Seen → Quadwords → Seen
+upTo (Rising b) c = Rising c
+upTo (Asked r) c = Asked r
 
 -- the place that is known to break the rule is p
 abbrev pub names : Seen → Quadwords → Bool

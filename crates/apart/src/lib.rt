@@ -10,7 +10,7 @@ use section::Clause;
 use units::Quadwords;
 ghost use mathlib.Core.Path.{_≡_};
 ghost use Rattle.apart.specs.Apart.{oddFetch};
-ghost use Rattle.apart.specs.Code.{SeenWith, names};
+ghost use Rattle.apart.specs.Code.{SeenWith, isRising, upTo, names};
 
 // What is known of the clauses that are opened so far: the quadword behind them all, as long as they rise; else the first place of the section
 // whose clause is not apart from those before it.
@@ -40,22 +40,55 @@ pub fn is_odd_fetch(clause: Clause) -> bool
     }
 }
 
-// What is known with one clause more, in a section that ends at pair `end`.
+// What is known with one clause more, in a section that ends at pair `end`. (The search stands in two places so that it stays out of the
+// loop over pairs: a compiler takes a function in where it is called once.)
 pub fn seen_with(words: &[u32], end: Quadwords, seen: Seen, clause: Clause) -> Seen
-    ensures { λ r. ⌜ SeenWith (now (words .entry)) (end .0) seen clause r ⌝ }
+    ensures { λ r. ⌜ SeenWith (now (words .entry)) (end .0) clause seen r ⌝ }
 {
-    match seen {
-        Seen::Asked(place) => Seen::Asked(place),
-        Seen::Rising(behind) => {
-            let range = ranges::range_of(clause);
-            if range.size.0 == 0 {
-                return Seen::Rising(behind);
-            }
-            if units::is_at_most(behind, range.start) {
-                return Seen::Rising(units::range_end(range.start, range.size));
+    match clause {
+        Clause::NoClause => seen,
+        Clause::AluClause {
+            start,
+            slots,
+            push_before: _,
+            mode0: _,
+            mode1: _,
+        } => {
+            if is_rising(seen, start) {
+                return up_to(seen, units::range_end(start, units::slots_length(slots)));
             }
             Seen::Asked(marks::first_not_apart(words, end))
         }
+        Clause::FetchClause {
+            start,
+            fetches,
+            kind: _,
+        } => {
+            if is_rising(seen, start) {
+                return up_to(seen, units::range_end(start, units::fetches_length(fetches)));
+            }
+            Seen::Asked(marks::first_not_apart(words, end))
+        }
+    }
+}
+
+// Whether a clause that starts there needs no search.
+fn is_rising(seen: Seen, start: Quadwords) -> bool
+    ensures { λ r. ⌜ r ≡ isRising seen start ⌝ }
+{
+    match seen {
+        Seen::Rising(behind) => units::is_at_most(behind, start),
+        Seen::Asked(_) => true,
+    }
+}
+
+// With a clause that ends there.
+fn up_to(seen: Seen, behind: Quadwords) -> Seen
+    ensures { λ r. ⌜ r ≡ upTo seen behind ⌝ }
+{
+    match seen {
+        Seen::Rising(_) => Seen::Rising(behind),
+        Seen::Asked(place) => Seen::Asked(place),
     }
 }
 

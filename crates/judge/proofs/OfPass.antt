@@ -14,13 +14,13 @@ use Rattle.checks.specs.Checks.{firstBroken, below}
 use Rattle.checks.proofs.OfChecks.{never-accepted, joined-clean, joined-refused, left-clean, below-none, below-next, below-found, below-each}
 use Rattle.card.specs.declared.Card.{Card}
 use Rattle.section.specs.declared.Clause.{Clause}
+use Rattle.opcodes.specs.declared.cf.Control.{Control}
 use Rattle.section.specs.Control.{controlOf, controlAt}
 use Rattle.section.specs.Rules.{clauseOf, clauseAt}
 use Rattle.apart.specs.declared.Seen.{Seen}
-use Rattle.apart.specs.declared.Seen.the-variants.{Rising}
 use Rattle.apart.specs.Apart.{behind}
 use Rattle.apart.specs.Code.{Fit, quadwordsIn, markedIn, SeenWith, SeenBefore}
-use Rattle.apart.proofs.OfApart.{seen-first, seen-next, unnamed-apart, named-not-apart}
+use Rattle.apart.proofs.OfApart.{seen-next, unnamed-apart, named-not-apart}
 use Rattle.walk.specs.declared.Flow.{Flow}
 use Rattle.walk.specs.declared.Frames.{Frames}
 use Rattle.walk.specs.CodeRows.{frames}
@@ -32,7 +32,7 @@ use Rattle.judge.specs.declared.pairs.Pair.{Pair}
 use Rattle.judge.specs.declared.stack.Ahead.{Ahead}
 use Rattle.judge.specs.declared.stack.Ahead.the-variants.{Broken, Next}
 use Rattle.judge.specs.Judge.{pairChecks, firstChecks}
-use Rattle.judge.specs.Code.{pairAt, InWords, Section, Standing, At, StackAt, LayoutTold, StackFound, Found, Stepped}
+use Rattle.judge.specs.Code.{pairAt, InWords, Section, Standing, At, LayoutTold, StackFound, Found, Stepped}
 use Rattle.judge.proofs.OfPairs.{range-kept, pair-range, pair-layout, ends-by-quads, layout-told}
 
 -- ---- one place
@@ -43,11 +43,13 @@ is-quadword card w e p k l = omega (arith, k .in-buffer)
 
 -- the pair that was read there
 pub pair-here :
-    (w : List ℕ) (p : ℕ) {low high : ℕ} {pair : Pair} → low ≡ lowAt w p → high ≡ highAt w p
-    → pair ≡ record { low = low; high = high; control = controlOf high; clause = clauseOf (controlOf high) low high } → pair ≡ pairAt w p
+    (w : List ℕ) (p : ℕ) {low high : ℕ} {control : Control} {clause : Clause} → low ≡ lowAt w p → high ≡ highAt w p → control ≡ controlOf high
+    → clause ≡ clauseOf control low high → record { low = low; high = high; control = control; clause = clause } ≡ pairAt w p
 unfolding controlAt clauseAt
-pair-here w p a b f =
-    f ∙ (λ i. record { low = a i; high = b i; control = controlOf (b i); clause = clauseOf (controlOf (b i)) (a i) (b i) })
+pair-here w p a b c d =
+    let k = c ∙ ap controlOf b in
+    let x = d ∙ (λ i. clauseOf (k i) (a i) (b i)) in
+    λ i. record { low = a i; high = b i; control = k i; clause = x i }
 
 pub flow-here :
     (w : List ℕ) (p : ℕ) {pair : Pair} {flow : Flow} → pair ≡ pairAt w p → flow ≡ flowOf (pair .control) (pair .low) (pair .high)
@@ -60,23 +62,22 @@ module _ (card : Card) (w : List ℕ) (e p : ℕ) {v : Verdict} (f : v ≡ first
   unfolding firstChecks
   found-pair h = joined-refused (pairChecks card w e p) (stackChecks (card .stack) e (flowAt w) p) (sym f ∙ h)
 
-  pub found-stack :
-      (next : Seen) (x : Ahead) → v ≡ Accepted → SeenBefore w e (suc p) next → StackFound (card .stack) e (flowAt w) p next x → Found card w e p x
+  pub found-stack : (x : Ahead) → v ≡ Accepted → StackFound (card .stack) e (flowAt w) p x → Found card w e p x
   unfolding firstChecks
-  found-stack next x h seen g = by x g
+  found-stack x h g = by x g
     where
       clean : firstBroken (firstChecks card w e p) ≡ firstBroken (stackChecks (card .stack) e (flowAt w) p)
       clean = joined-clean (pairChecks card w e p) (stackChecks (card .stack) e (flowAt w) p) (sym f ∙ h)
 
-      by : (x : Ahead) → StackFound (card .stack) e (flowAt w) p next x → Found card w e p x
+      by : (x : Ahead) → StackFound (card .stack) e (flowAt w) p x → Found card w e p x
       by (Broken r at slot) k = clean ∙ k
-      by (Next f n) k = (clean ∙ k .0, k .1, k .2, subst (SeenBefore w e (suc p)) (sym (k .3)) seen)
+      by (Next f) k = (clean ∙ k .0, k .1, k .2)
 
 -- ---- the places in a row
 
 pub standing-first :
     (card : Card) (w : List ℕ) (e : ℕ) (tops marks : List ℕ) → Section card w e tops marks
-    → Standing card w e 0 (frames 0 0 0) (Rising (quadwords 0)) tops marks
+    → Standing card w e 0 (frames 0 0 0) tops marks
 standing-first card w e tops marks h =
     record {
       section = h;
@@ -85,22 +86,10 @@ standing-first card w e tops marks h =
       held = held-start (flowAt w);
       not-deep = omega arith;
       recorded = recorded-none (flowAt w) tops marks;
-      seen-before = seen-first w e;
     }
 
 -- a place from what was found there, with its row written
-module _ (card : Card) (w : List ℕ) (e p : ℕ) (s : Frames) (seen : Seen) (tops marks : List ℕ) (here : At card w e p s seen tops marks) where
-  pub stack-at : StackAt card w e p s tops marks
-  stack-at =
-      let z = here .standing in
-      record {
-        among-512 = z .section .in-words .among-512;
-        in-section = here .in-section;
-        held = z .held;
-        not-deep = z .not-deep;
-        recorded = z .recorded;
-      }
-
+module _ (card : Card) (w : List ℕ) (e p : ℕ) (s : Frames) (tops marks : List ℕ) (here : At card w e p s tops marks) where
   -- nothing before breaks 6 or 22
   fit-before : (q : ℕ) → q < p → Fit (markedIn w) (clauseAt w) q
   unfolding firstChecks
@@ -113,26 +102,22 @@ module _ (card : Card) (w : List ℕ) (e p : ℕ) (s : Frames) (seen : Seen) (to
         apart = pair-layout card w e q clean .apart;
       }
 
-  module _ {k : Clause} (is : k ≡ clauseAt w p) (next : Seen) (f : SeenWith w e seen k next) where
-    with-p : SeenWith w e seen (clauseAt w p) next
-    with-p = subst (λ (x : Clause). SeenWith w e seen x next) is f
-
-    pub seen-then : SeenBefore w e (suc p) next
-    seen-then = seen-next w e p seen next (here .standing .seen-before) with-p
-
-    pub told-at : LayoutTold card w e p next
-    told-at clean =
-        let near : p < min (suc e) (quadwordsIn w) = omega (arith, here .in-section, is-quadword card w e p (here .standing .section .in-words) (here .in-section)) in
-        let inside : behind (clauseAt w p) .0 ≤ markedIn w =
-        omega
-        (arith, ends-by-quads (quadwords e) (card .quads) (clauseAt w p) (range-kept card w e p clean .range), here .standing .section .in-words .quads-marked) in
-        layout-told w p next (unnamed-apart w e p seen next (here .standing .seen-before) with-p fit-before near inside)
-        (named-not-apart w e p seen next (here .standing .seen-before) with-p fit-before near inside)
+  -- so what is known with p's clause tells of 22 there
+  pub told-at :
+      {k : Clause} (seen next : Seen) → SeenBefore w e p seen → k ≡ clauseAt w p → SeenWith w e k seen next → LayoutTold card w e p next
+  told-at seen next before is f clean =
+      let words = here .standing .section .in-words in
+      let near : p < min (suc e) (quadwordsIn w) = omega (arith, here .in-section, is-quadword card w e p words (here .in-section)) in
+      let ends = ends-by-quads (quadwords e) (card .quads) (clauseAt w p) (range-kept card w e p clean .range) in
+      let inside : behind (clauseAt w p) .0 ≤ markedIn w = omega (arith, ends, words .quads-marked) in
+      let with-p = subst (λ (x : Clause). SeenWith w e x seen next) is f in
+      layout-told w p next (unnamed-apart w e p seen next before with-p fit-before near inside)
+      (named-not-apart w e p seen next before with-p fit-before near inside)
 
   pub stepped : (a : Ahead) → Found card w e p a → Stepped card w e p a (set tops p (s .top .0)) (set marks p (s .marks))
   stepped (Broken r at slot) h =
       below-found (firstChecks card w e) (suc e) p (omega (arith, here .in-section)) (here .standing .clean-before) h
-  stepped (Next f next) h =
+  stepped (Next f) h =
       let z = here .standing in
       record {
         section =
@@ -148,8 +133,14 @@ module _ (card : Card) (w : List ℕ) (e p : ℕ) (s : Frames) (seen : Seen) (to
         recorded =
             recorded-more (flowAt w) tops marks p (s .top .0) (s .marks) (omega (arith, z .section .tops-room, here .in-section))
             (omega (arith, z .section .marks-room, here .in-section)) (z .recorded) (z .held .shape);
-        seen-before = h .3;
       }
+
+-- what is known of the clauses, one place on
+pub known-next :
+    (w : List ℕ) (e p : ℕ) {k : Clause} {n : ℕ} (seen next : Seen) → SeenBefore w e p seen → k ≡ clauseAt w p → SeenWith w e k seen next → n ≡ suc p
+    → SeenBefore w e n next
+known-next w e p seen next before is f z =
+    rw z (seen-next w e p seen next before (subst (λ (x : Clause). SeenWith w e x seen next) is f))
 
 -- the first pass's answers
 module _ (card : Card) (w : List ℕ) (e p : ℕ) (tops marks : List ℕ) where
@@ -160,13 +151,12 @@ module _ (card : Card) (w : List ℕ) (e p : ℕ) (tops marks : List ℕ) where
       (sym (subst (λ (x : Ahead). Stepped card w e p x tops marks) q h), λ x. absurd (never-accepted x))
 
   pub passing-next :
-      {a : Ahead} {f : Frames} {seen : Seen} {next : ℕ} → Stepped card w e p a tops marks → a ≡ Next f seen → next ≡ suc p
-      → Standing card w e next f seen tops marks
+      {a : Ahead} {f : Frames} {next : ℕ} → Stepped card w e p a tops marks → a ≡ Next f → next ≡ suc p → Standing card w e next f tops marks
   passing-next h q z =
       rw z (subst (λ (x : Ahead). Stepped card w e p x tops marks) q h)
 
   pub passing-all :
-      {s : Frames} {seen : Seen} → Standing card w e p s seen tops marks → e < p
+      {s : Frames} → Standing card w e p s tops marks → e < p
       → (Accepted ≡ firstBroken (below (firstChecks card w e) (suc e))) × (Accepted ≡ Accepted → Recorded (flowAt w) (suc e) tops marks)
   passing-all g l =
       let q : p ≡ suc e = omega (arith, g .near) in

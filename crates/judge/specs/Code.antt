@@ -16,7 +16,7 @@ use Rattle.section.specs.Control.{controlAt}
 use Rattle.section.specs.Rules.{clauseAt}
 use Rattle.apart.specs.declared.Seen.{Seen}
 use Rattle.apart.specs.Apart.{oddFetch, layoutChecks}
-use Rattle.apart.specs.Code.{SeenBefore, names, markedIn}
+use Rattle.apart.specs.Code.{names, markedIn}
 use Rattle.walk.specs.declared.Flow.{Flow}
 use Rattle.walk.specs.declared.Frames.{Frames}
 use Rattle.walk.specs.CodeHeld.{Held, Recorded}
@@ -43,53 +43,43 @@ pub record Section (card : Card) (w : List ℕ) (e : ℕ) (tops marks : List ℕ
   pub tops-room : e < length tops
   pub marks-room : e < length marks
 
--- the first pass stands before p: nothing is broken at the places before, and the stack, the rows and what is known of the clauses are those
--- of these places
-pub record Standing (card : Card) (w : List ℕ) (e p : ℕ) (s : Frames) (seen : Seen) (tops marks : List ℕ) : Type 0 where
+-- the first pass stands before p: nothing is broken at the places before, and the stack and the rows are those of these places
+pub record Standing (card : Card) (w : List ℕ) (e p : ℕ) (s : Frames) (tops marks : List ℕ) : Type 0 where
   pub section : Section card w e tops marks
   pub near : p ≤ suc e
   pub clean-before : firstBroken (below (firstChecks card w e) p) ≡ Accepted
   pub held : Held (flowAt w) p s
   pub not-deep : s .depth ≤ card .stack
   pub recorded : Recorded (flowAt w) p tops marks
-  pub seen-before : SeenBefore w e p seen
 
 -- and p is a place of the section
-pub record At (card : Card) (w : List ℕ) (e p : ℕ) (s : Frames) (seen : Seen) (tops marks : List ℕ) : Type 0 where
-  pub standing : Standing card w e p s seen tops marks
+pub record At (card : Card) (w : List ℕ) (e p : ℕ) (s : Frames) (tops marks : List ℕ) : Type 0 where
+  pub standing : Standing card w e p s tops marks
   pub in-section : p ≤ e
-
--- what 16 and 17 at p rest on of that
-pub record StackAt (card : Card) (w : List ℕ) (e p : ℕ) (s : Frames) (tops marks : List ℕ) : Type 0 where
-  pub among-512 : e < 512
-  pub in-section : p ≤ e
-  pub held : Held (flowAt w) p s
-  pub not-deep : s .depth ≤ card .stack
-  pub recorded : Recorded (flowAt w) p tops marks
 
 -- 22 at p, of its clause and of what is known with it
 abbrev pub layoutVerdict : Clause → Seen → Quadwords → Verdict
 layoutVerdict k seen p = cond (oddFetch k || names seen p) (Refused 22 (Quadword p) (slots 0)) Accepted
 
--- that is rule 22's verdict, where 4, 5 and 6 are kept
+-- that is the list's verdict on 22, where 4, 5 and 6 are kept
 abbrev pub LayoutTold : Card → List ℕ → ℕ → ℕ → Seen → Type 0
 LayoutTold card w e p seen =
     firstBroken (rangeChecks card w e p) ≡ Accepted
     → layoutVerdict (clauseAt w p) seen (quadwords p) ≡ firstBroken (layoutChecks (clauseAt w) p)
 
--- 16 and 17 at p: what is broken, or the stack behind it; what is known of the clauses is handed on
-abbrev pub StackFound : ℕ → ℕ → (ℕ → Flow) → ℕ → Seen → Ahead → Type 0
-StackFound limit e code p seen (Broken r at slot) = firstBroken (stackChecks limit e code p) ≡ Refused r at slot
-StackFound limit e code p seen (Next f next) =
-    (firstBroken (stackChecks limit e code p) ≡ Accepted) × Held code (suc p) f × (f .depth ≤ limit) × (next ≡ seen)
+-- 16 and 17 at p: what is broken, or the stack behind it
+abbrev pub StackFound : ℕ → ℕ → (ℕ → Flow) → ℕ → Ahead → Type 0
+StackFound limit e code p (Broken r at slot) = firstBroken (stackChecks limit e code p) ≡ Refused r at slot
+StackFound limit e code p (Next f) =
+    (firstBroken (stackChecks limit e code p) ≡ Accepted) × Held code (suc p) f × (f .depth ≤ limit)
 
 -- all of the first pass at p
 abbrev pub Found : Card → List ℕ → ℕ → ℕ → Ahead → Type 0
 Found card w e p (Broken r at slot) = firstBroken (firstChecks card w e p) ≡ Refused r at slot
-Found card w e p (Next f next) =
-    (firstBroken (firstChecks card w e p) ≡ Accepted) × Held (flowAt w) (suc p) f × (f .depth ≤ card .stack) × SeenBefore w e (suc p) next
+Found card w e p (Next f) =
+    (firstBroken (firstChecks card w e p) ≡ Accepted) × Held (flowAt w) (suc p) f × (f .depth ≤ card .stack)
 
 -- the first pass's answer, or it stands before the next place
 abbrev pub Stepped : Card → List ℕ → ℕ → ℕ → Ahead → List ℕ → List ℕ → Type 0
 Stepped card w e p (Broken r at slot) tops marks = firstBroken (below (firstChecks card w e) (suc e)) ≡ Refused r at slot
-Stepped card w e p (Next f next) tops marks = Standing card w e (suc p) f next tops marks
+Stepped card w e p (Next f) tops marks = Standing card w e (suc p) f tops marks

@@ -20,12 +20,13 @@ ghost use Rattle.walk.specs.CodeHeld.{Recorded};
 ghost use Rattle.walk.specs.Flow.{flowAt};
 ghost use Rattle.judge.specs.Judge.{firstChecks, passes, judgement, judgementOfBytes};
 ghost use Rattle.judge.specs.Safe.{Safely, SafelyRead};
-ghost use Rattle.judge.specs.Code.{InWords, Section, At, Found, Stepped};
+ghost use Rattle.judge.specs.Code.{pairAt, InWords, Section, At, LayoutTold, Found, Stepped};
 
 mod pairs;
 mod stack;
 
 pub use pairs::limits_with;
+use pairs::Pair;
 use stack::Ahead;
 
 // The verdict on a pack by a card. Whatever the words and the card are, there is an answer; and where it is Accepted, every walk is safe.
@@ -122,14 +123,16 @@ fn first_pass(
     let mut seen = Seen::Rising(Quadwords(0));
     let mut p = Quadwords(0);
     while units::is_at_most(p, e) {
-        let ahead = first_at(card, words, e, p, s, seen, &mut tops[..], &mut marks[..]);
+        let pair = pairs::pair_at(words, p);
+        let clause = pair.clause;
+        seen = apart::seen_with(words, e, seen, clause);
+        let ahead = first_at(card, words, e, p, pair, seen, s, &mut tops[..], &mut marks[..]);
         match ahead {
             Ahead::Broken { rule, place, slot } => {
                 return Verdict::Refused { rule, place, slot };
             }
-            Ahead::Next(f, next) => {
+            Ahead::Next(f) => {
                 s = f;
-                seen = next;
             }
         }
         p = units::quadword_behind(p);
@@ -137,21 +140,25 @@ fn first_pass(
     Verdict::Accepted
 }
 
-// Rules 4 to 17 and 22 at place p, before which the stack is `s`, and `seen` is known of the clauses; its row is written.
+// Rules 4 to 17 and 22 at place p, where `pair` stands and before which the stack is `s`; `seen` is what is known of the clauses up to there. Its
+// row is written.
 fn first_at(
     card: Card,
     words: &[u32],
     e: Quadwords,
     p: Quadwords,
-    s: Frames,
+    pair: Pair,
     seen: Seen,
+    s: Frames,
     tops: &mut [usize],
     marks: &mut [usize],
 ) -> Ahead
-    requires { ⌜ At card (now words) (e .0) (p .0) s seen (now tops) (now marks) ⌝ }
+    requires { ⌜ At card (now words) (e .0) (p .0) s (now tops) (now marks) ⌝ }
+    requires { ⌜ pair ≡ pairAt (now words) (p .0) ⌝ }
+    requires { ⌜ LayoutTold card (now words) (e .0) (p .0) seen ⌝ }
     ensures { λ r. ⌜ Stepped card (now (words .entry)) (e .0) (p .0) r (now (tops .exit)) (now (marks .exit)) ⌝ }
 {
-    let ahead = place_ahead(card, words, e, p, s, seen, &tops[..], &marks[..]);
+    let ahead = place_ahead(card, words, e, p, pair, seen, s, &tops[..], &marks[..]);
     let row = p.0;
     tops[row] = s.top.0;
     marks[row] = s.marks;
@@ -164,24 +171,23 @@ fn place_ahead(
     words: &[u32],
     e: Quadwords,
     p: Quadwords,
-    s: Frames,
+    pair: Pair,
     seen: Seen,
+    s: Frames,
     tops: &[usize],
     marks: &[usize],
 ) -> Ahead
-    requires { ⌜ At card (now words) (e .0) (p .0) s seen (now tops) (now marks) ⌝ }
+    requires { ⌜ At card (now words) (e .0) (p .0) s (now tops) (now marks) ⌝ }
+    requires { ⌜ pair ≡ pairAt (now words) (p .0) ⌝ }
+    requires { ⌜ LayoutTold card (now words) (e .0) (p .0) seen ⌝ }
     ensures { λ r. ⌜ Found card (now (words .entry)) (e .0) (p .0) r ⌝ }
 {
-    let at = units::low_word(p).0;
-    let pair = pairs::pair_of(words[at], words[at + 1]);
-    let clause = pair.clause;
-    let next = apart::seen_with(words, e, seen, clause);
-    let verdict = pairs::pair_verdict(card, words, e, p, pair, next);
+    let verdict = pairs::pair_verdict(card, words, e, p, pair, seen);
     match verdict {
         Verdict::Refused { rule, place, slot } => Ahead::Broken { rule, place, slot },
         Verdict::Accepted => {
             let flow = pairs::flow_of(pair);
-            stack::stack_at(card, words, flow, e, p, s, next, tops, marks)
+            stack::stack_at(card, words, flow, e, p, s, tops, marks)
         }
     }
 }

@@ -11,8 +11,8 @@ use units::Quadwords;
 use walk::Flow;
 ghost use mathlib.Core.Path.{_≡_};
 ghost use Rattle.checks.specs.Checks.{firstBroken};
-ghost use Rattle.section.specs.Control.{controlOf};
-ghost use Rattle.section.specs.Rules.{clauseOf};
+ghost use Prim.Native.Nat.{_<_};
+ghost use Rattle.apart.specs.Code.{quadwordsIn};
 ghost use Rattle.walk.specs.Flow as flows;
 ghost use Rattle.judge.specs.Judge as order;
 ghost use Rattle.judge.specs.Code.{pairAt, layoutVerdict, LayoutTold};
@@ -25,9 +25,14 @@ pub struct Pair {
     pub clause: Clause,
 }
 
-pub(crate) fn pair_of(low: u32, high: u32) -> Pair
-    ensures { λ r. ⌜ r ≡ record { low = low; high = high; control = controlOf high; clause = clauseOf (controlOf high) low high } ⌝ }
+// The pair at p, read once.
+pub(crate) fn pair_at(words: &[u32], p: Quadwords) -> Pair
+    requires { ⌜ p .0 < quadwordsIn (now words) ⌝ }
+    ensures { λ r. ⌜ r ≡ pairAt (now (words .entry)) (p .0) ⌝ }
 {
+    let at = units::low_word(p).0;
+    let low = words[at];
+    let high = words[at + 1];
     let control = section::control_of(high);
     let clause = section::clause_of(control, low, high);
     Pair {

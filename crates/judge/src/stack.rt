@@ -1,5 +1,4 @@
 // Rules 16 and 17 at one place of the first pass.
-use apart::Seen;
 use card::Card;
 use checks::Place;
 use units::Quadwords;
@@ -12,15 +11,15 @@ ghost use Rattle.units.specs.Units as counts;
 ghost use Rattle.checks.specs.declared.Place.the-variants as places;
 ghost use Rattle.judge.specs.declared.stack.Ahead.the-variants as ahead;
 ghost use Rattle.walk.specs.Flow.{flowAt};
-ghost use Rattle.judge.specs.Code.{StackAt, StackFound};
+ghost use Rattle.judge.specs.Code.{At, StackFound};
 
-// What the first pass finds at a place: a broken check, or the stack behind it and what is known of the clauses up to it.
+// What the first pass finds at a place: a broken check, or the stack behind it.
 pub enum Ahead {
     Broken { rule: u8, place: Place, slot: Slots },
-    Next(Frames, Seen),
+    Next(Frames),
 }
 
-// `flow` is what stands at place p of the words, and e the section's end; `next` is handed on.
+// `flow` is what stands at place p of the words, and e the section's end.
 pub(crate) fn stack_at(
     card: Card,
     words: &[u32],
@@ -28,13 +27,12 @@ pub(crate) fn stack_at(
     e: Quadwords,
     p: Quadwords,
     s: Frames,
-    next: Seen,
     tops: &[usize],
     marks: &[usize],
 ) -> Ahead
     requires { ⌜ flow ≡ flowAt (now words) (p .0) ⌝ }
-    requires { ⌜ StackAt card (now words) (e .0) (p .0) s (now tops) (now marks) ⌝ }
-    ensures { λ r. ⌜ StackFound (card .stack) (e .0) (flowAt (now (words .entry))) (p .0) next r ⌝ }
+    requires { ⌜ At card (now words) (e .0) (p .0) s (now tops) (now marks) ⌝ }
+    ensures { λ r. ⌜ StackFound (card .stack) (e .0) (flowAt (now (words .entry))) (p .0) r ⌝ }
 {
     let limit = card.stack as usize;
     let moved = walk::follow(flow, units::quadword_behind(p), limit, s, tops, marks);
@@ -43,12 +41,12 @@ pub(crate) fn stack_at(
         Moved::TooDeep => broken(16, p),
         Moved::To(f) => {
             if p.0 != e.0 {
-                return Ahead::Next(f, next);
+                return Ahead::Next(f);
             }
             if s.depth != 0 {
                 return broken(17, p);
             }
-            Ahead::Next(f, next)
+            Ahead::Next(f)
         }
     }
 }

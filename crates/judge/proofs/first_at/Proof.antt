@@ -9,7 +9,7 @@ returns : tie.Need-returns
 returns c =
     let z = c .before .before .before .before .before .before in
     let a = z .args in
-    stepped (a .card) (now (a .words)) (a .e .0) (a .p .0) (a .s) (a .seen) _ _ (z .pre) (c .place-ahead .result) (c .place-ahead .ensures)
+    stepped (a .card) (now (a .words)) (a .e .0) (a .p .0) (a .s) _ _ (z .pre .0) (c .place-ahead .result) (c .place-ahead .ensures)
 
 pub first-at-spec : {M : Type 1} → statement M
 first-at-spec =

@@ -11,7 +11,7 @@ returns c =
     let z = followed .before .before .before .before .before .before in
     let a = z .args in
     found-next (a .card) (now (a .words)) (a .e .0) (a .p .0) (a .s) (now (a .tops)) (now (a .marks)) (z .pre .0) (z .pre .1)
-    (followed .before .quadword-behind .ensures) (followed .follow .ensures) (a .next) (c .before .before .before .before .moved .given .1)
+    (followed .before .quadword-behind .ensures) (followed .follow .ensures) (c .before .before .before .before .moved .given .1)
     (c .if1 .taken)
 
 returns-2 : tie.Need-returns-2
@@ -21,7 +21,7 @@ returns-2 c =
     let z = followed .before .before .before .before .before .before in
     let a = z .args in
     found-left (a .card) (now (a .words)) (a .e .0) (a .p .0) (a .s) (now (a .tops)) (now (a .marks)) (z .pre .0) (z .pre .1)
-    (followed .before .quadword-behind .ensures) (followed .follow .ensures) (a .next)
+    (followed .before .quadword-behind .ensures) (followed .follow .ensures)
     (compared .before .before .before .before .moved .given .1)
     (compared .if1 .left) (c .before .if2 .taken) (c .broken3 .ensures)
 
@@ -31,7 +31,7 @@ returns-3 c =
     let z = followed .before .before .before .before .before .before in
     let a = z .args in
     found-lacks (a .card) (now (a .words)) (a .e .0) (a .p .0) (a .s) (now (a .tops)) (now (a .marks)) (z .pre .0) (z .pre .1)
-    (followed .before .quadword-behind .ensures) (followed .follow .ensures) (a .next) (c .before .enum-told .given .1)
+    (followed .before .quadword-behind .ensures) (followed .follow .ensures) (c .before .enum-told .given .1)
     (c .broken .ensures)
 
 returns-4 : tie.Need-returns-4
@@ -40,7 +40,7 @@ returns-4 c =
     let z = followed .before .before .before .before .before .before in
     let a = z .args in
     found-deep (a .card) (now (a .words)) (a .e .0) (a .p .0) (a .s) (now (a .tops)) (now (a .marks)) (z .pre .0) (z .pre .1)
-    (followed .before .quadword-behind .ensures) (followed .follow .ensures) (a .next) (c .before .enum-told2 .given .1)
+    (followed .before .quadword-behind .ensures) (followed .follow .ensures) (c .before .enum-told2 .given .1)
     (c .broken2 .ensures)
 
 returns-5 : tie.Need-returns-5
@@ -50,7 +50,7 @@ returns-5 c =
     let z = followed .before .before .before .before .before .before in
     let a = z .args in
     found-end (a .card) (now (a .words)) (a .e .0) (a .p .0) (a .s) (now (a .tops)) (now (a .marks)) (z .pre .0) (z .pre .1)
-    (followed .before .quadword-behind .ensures) (followed .follow .ensures) (a .next)
+    (followed .before .quadword-behind .ensures) (followed .follow .ensures)
     (compared .before .before .before .before .moved .given .1)
     (compared .if1 .left) (c .if2 .left)
 
