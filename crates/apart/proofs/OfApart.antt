@@ -29,9 +29,9 @@ use Rattle.section.specs.Control.{controlOf, controlAt}
 use Rattle.section.specs.Rules.{clauseOf, clauseAt}
 use Rattle.apart.specs.declared.ranges.Range.{Range}
 use Rattle.apart.specs.declared.Seen.{Seen}
-use Rattle.apart.specs.declared.Seen.the-variants.{Rising, Asked}
+use Rattle.apart.specs.declared.Seen.the-variants.{Span, Asked}
 use Rattle.apart.specs.Apart.{startOf, lengthOf, behind, sameRange, disjoint, halfShared, oddFetch, sharedChecks, layoutChecks, SameOrDisjoint}
-use Rattle.apart.specs.Code.{rangeOf, ApartFrom, Fit, FirstUnfit, FirstNotApart, quadwordsIn, markedIn, SeenWith, opens-none, rises, turns, is-known, SeenBefore, isRising, upTo, names}
+use Rattle.apart.specs.Code.{rangeOf, ApartFrom, Fit, FirstUnfit, FirstNotApart, quadwordsIn, markedIn, OneIs, SeenWith, opens-none, clear, turns, Spanned, SeenBefore, noneSeen, isClear, upTo, names}
 
 -- ---- two clauses
 
@@ -131,15 +131,16 @@ pub record Sized (k : Clause) : Type 0 where
   pub few : lengthOf k .0 ≤ 128
   pub low : startOf k .0 < 2 ^ 32
   pub none : lengthOf k .0 ≡ 0 → startOf k .0 ≡ 0
+  pub some : (k ≡ NoClause → ⊥) → 0 < lengthOf k .0
 
 pub clause-sized : (c : Control) (lo hi : ℕ) → Sized (clauseOf c lo hi)
 unfolding clauseOf
-clause-sized NotTaken lo hi = record { few = omega arith; low = omega arith; none = λ z. refl }
-clause-sized Nop lo hi = record { few = omega arith; low = omega arith; none = λ z. refl }
-clause-sized (Fetch kind) lo hi = record { few = omega arith; low = omega arith; none = λ z. absurd (omega arith) }
-clause-sized (Branch b) lo hi = record { few = omega arith; low = omega arith; none = λ z. refl }
-clause-sized Export lo hi = record { few = omega arith; low = omega arith; none = λ z. refl }
-clause-sized (Alu push pops) lo hi = record { few = omega arith; low = omega arith; none = λ z. absurd (omega arith) }
+clause-sized NotTaken lo hi = record { few = omega arith; low = omega arith; none = λ z. refl; some = λ n. absurd (n refl) }
+clause-sized Nop lo hi = record { few = omega arith; low = omega arith; none = λ z. refl; some = λ n. absurd (n refl) }
+clause-sized (Fetch kind) lo hi = record { few = omega arith; low = omega arith; none = λ z. absurd (omega arith); some = λ n. omega arith }
+clause-sized (Branch b) lo hi = record { few = omega arith; low = omega arith; none = λ z. refl; some = λ n. absurd (n refl) }
+clause-sized Export lo hi = record { few = omega arith; low = omega arith; none = λ z. refl; some = λ n. absurd (n refl) }
+clause-sized (Alu push pops) lo hi = record { few = omega arith; low = omega arith; none = λ z. absurd (omega arith); some = λ n. omega arith }
 
 pub sized-at : (w : List ℕ) (p : ℕ) → Sized (clauseAt w p)
 unfolding clauseAt
@@ -173,20 +174,39 @@ range-here w p a b c d f =
 
 -- ---- with one clause more, from what the tests answered
 
--- of a clause that starts at s and has so many quadwords
-module _ (w : List ℕ) (e : ℕ) (k : Clause) (some : k ≡ NoClause → ⊥) {s : Quadwords} (starts : s ≡ startOf k) {t : Bool} where
-  pub goes-on-rising :
-      (seen : Seen) {c : Quadwords} {r : Seen} → t ≡ isRising seen s → t ≡ true → c ≡ quadwordsIn64 (behind k) → r ≡ upTo seen c
-      → SeenWith w e k seen r
-  goes-on-rising (Rising b) f h q g =
-      let l = leb-true (b .0) (startOf k .0) (ap (isAtMost b) (sym starts) ∙ sym f ∙ h) in
-      subst (SeenWith w e k (Rising b)) (sym g) (rises some l q)
-  goes-on-rising (Asked r) f h q g = subst (SeenWith w e k (Asked r)) (sym g) (is-known some)
+module _ {seen : Seen} {l b h : Quadwords} (f : seen ≡ Span l b h) (s c : Quadwords) {t : Bool} (g : t ≡ isAtMost b s) where
+  pub clear-behind : t ≡ true → true ≡ isClear seen s c
+  clear-behind e = rw (f, sym g ∙ e)
 
-  pub turns-there :
-      (seen : Seen) {r : Quadwords} → t ≡ isRising seen s → t ≡ false → FirstNotApart w e (r .0) → SeenWith w e k seen (Asked r)
-  turns-there (Rising b) f h q = turns some (leb-false (b .0) (startOf k .0) (ap (isAtMost b) (sym starts) ∙ sym f ∙ h)) q
-  turns-there (Asked r) f h q = impossible (let x : true ≡ false = sym f ∙ h in cc)
+  pub up-behind : {m : ℕ} → t ≡ true → m ≡ min (l .0) (s .0) → Span (quadwords m) c s ≡ upTo seen s c
+  up-behind e k = rw (f, sym g ∙ e) (λ i. Span (quadwords (k i)) c s)
+
+  module _ (e : t ≡ false) where
+    pub up-else : {m : ℕ} → m ≡ min (l .0) (s .0) → Span (quadwords m) b h ≡ upTo seen s c
+    up-else k = rw (f, sym g ∙ e) (λ i. Span (quadwords (k i)) b h)
+
+    module _ {u : Bool} (k : u ≡ isAtMost c l) where
+      pub clear-before : u ≡ true → true ≡ isClear seen s c
+      clear-before x = rw (f, sym g ∙ e, sym k ∙ x)
+
+      module _ (x : u ≡ false) where
+        pub not-highest : (h .0 ≡ s .0 → ⊥) → false ≡ isClear seen s c
+        not-highest n = rw (f, sym g ∙ e, sym k ∙ x, ne-eqb (h .0) (s .0) n)
+
+        pub if-highest : h .0 ≡ s .0 → eqb (b .0) (c .0) ≡ isClear seen s c
+        if-highest n = rw (f, sym g ∙ e, sym k ∙ x, eq-eqb (h .0) (s .0) n)
+
+-- of a clause that starts at s and ends before c
+module _ (w : List ℕ) (e : ℕ) (k : Clause) (some : k ≡ NoClause → ⊥) {s c : Quadwords} (starts : s ≡ startOf k) (ends : c ≡ quadwordsIn64 (behind k))
+    {t : Bool} (seen : Seen) (f : t ≡ isClear seen s c) where
+  told : (u : Bool) → t ≡ u → isClear seen (startOf k) (quadwordsIn64 (behind k)) ≡ u
+  told u h = (λ i. isClear seen (sym starts i) (sym ends i)) ∙ sym f ∙ h
+
+  pub is-clear : {r : Seen} → t ≡ true → r ≡ upTo seen s c → SeenWith w e k seen r
+  is-clear h g = clear some (told true h) (g ∙ (λ i. upTo seen (starts i) (ends i)))
+
+  pub turns-there : {r : Quadwords} → t ≡ false → FirstNotApart w e (r .0) → SeenWith w e k seen (Asked r)
+  turns-there h q = turns some (told false h) q
 
 -- a clause of slots, or of fetches, is one, and ends where the sums say
 module _ {k : Clause} {s : Quadwords} {n : Slots} where
@@ -213,31 +233,97 @@ module _ {k : Clause} {s : Quadwords} {n : Slots} where
 
 -- ---- what is known as the places go by
 
-pub seen-first : (w : List ℕ) (e : ℕ) → SeenBefore w e 0 (Rising (quadwords 0))
-seen-first w e q l = absurd (omega arith)
+pub seen-first : (w : List ℕ) (e : ℕ) → SeenBefore w e 0 noneSeen
+seen-first w e = record { between = λ q l. absurd (omega arith); has-highest = λ l. absurd (omega arith) }
+
+-- the three ways in which a range can be clear
+data Clear (lowest end highest s c : ℕ) : Type 0 where
+  behind-all : end ≤ s → Clear lowest end highest s c
+  before-all : s < end → c ≤ lowest → Clear lowest end highest s c
+  the-highest : s < end → highest ≡ s → end ≡ c → Clear lowest end highest s c
+
+clear-how : (l b h s c : Quadwords) → isClear (Span l b h) s c ≡ true → Clear (l .0) (b .0) (h .0) (s .0) (c .0)
+clear-how l b h s c e =
+    by-test (isAtMost b s) (λ x. behind-all (leb-true (b .0) (s .0) x))
+    (λ x.
+    let less = leb-false (b .0) (s .0) x in
+    by-test (isAtMost c l) (λ y. before-all less (leb-true (c .0) (l .0) y))
+    (λ y.
+    let z : eqb (h .0) (s .0) && eqb (b .0) (c .0) ≡ true = rw (x, y) at e in
+    let both-are = both (eqb (h .0) (s .0)) (eqb (b .0) (c .0)) z in
+    the-highest less (eqb-true (h .0) (s .0) (both-are .0)) (eqb-true (b .0) (c .0) (both-are .1))))
 
 module _ (w : List ℕ) (e p : ℕ) where
-  -- the places up to p, from those before it
-  and-here :
-      (b : ℕ) → ((q : ℕ) → q < p → behind (clauseAt w q) .0 ≤ b) → behind (clauseAt w p) .0 ≤ b → (q : ℕ) → q < suc p
-      → behind (clauseAt w q) .0 ≤ b
-  and-here b h k q l = ⊎-elim (λ x. rw x k) (h q) (eq-or-lt-of-le (le-of-suc-le-suc l))
+  last-or : (P : ℕ → Type 0) (q : ℕ) → q < suc p → (q < p → P q) → P p → P q
+  last-or P q l f h = ⊎-elim (λ x. subst P (sym x) h) f (eq-or-lt-of-le (le-of-suc-le-suc l))
+
+  later : {s c : ℕ} → OneIs (clauseAt w) p s c → OneIs (clauseAt w) (suc p) s c
+  later o = record { place = o .place; earlier = le-step (o .earlier); starts = o .starts; ends = o .ends }
 
   none-here : (s : Seen) → clauseAt w p ≡ NoClause → SeenBefore w e p s → SeenBefore w e (suc p) s
-  none-here (Rising b) z h =
-      let n : behind (clauseAt w p) .0 ≡ 0 = ap (λ (x : Clause). behind x .0) z in
-      and-here (b .0) h (omega arith)
-  none-here (Asked r) z h = h
+  none-here (Span l b h) z x =
+      let n : lengthOf (clauseAt w p) .0 ≡ 0 = ap (λ (y : Clause). lengthOf y .0) z in
+      record {
+        between =
+            λ q k. last-or (λ q. 0 < lengthOf (clauseAt w q) .0 → (l .0 ≤ startOf (clauseAt w q) .0) × (behind (clauseAt w q) .0 ≤ b .0)) q k (x .between q) (λ y. absurd (omega arith));
+        has-highest = λ y. later (x .has-highest y);
+      }
+  none-here (Asked r) z x = x
+
+  -- where all ranges before lie, with one that is clear
+  spanned :
+      (l b h : ℕ) → Spanned (clauseAt w) p l b h → 0 < lengthOf (clauseAt w p) .0
+      → Clear l b h (startOf (clauseAt w p) .0) (behind (clauseAt w p) .0) → (m d g : ℕ) → m ≡ min l (startOf (clauseAt w p) .0)
+      → (b ≤ startOf (clauseAt w p) .0 → (d ≡ behind (clauseAt w p) .0) × (g ≡ startOf (clauseAt w p) .0))
+      → (startOf (clauseAt w p) .0 < b → (d ≡ b) × (g ≡ h)) → Spanned (clauseAt w) (suc p) m d g
+  spanned l b h x some (behind-all r) m d g u v y =
+      let z = v r in
+      record {
+        between =
+            λ q k. last-or (λ q. 0 < lengthOf (clauseAt w q) .0 → (m ≤ startOf (clauseAt w q) .0) × (behind (clauseAt w q) .0 ≤ d)) q k (λ i n. let o = x .between q i n in (omega (arith, o .0), omega (arith, o .1, z .0))) (λ n. (omega arith, omega (arith, z .0)));
+        has-highest = λ n. record { place = p; earlier = le-refl (suc p); starts = sym (z .1); ends = sym (z .0) };
+      }
+  spanned l b h x some (before-all less r) m d g u v y =
+      let z = y less in
+      let one = x .has-highest (omega arith) in
+      let least : l ≤ b = by-test (ltb 0 (lengthOf (clauseAt w (one .place)) .0)) (λ t. let o = x .between (one .place) (one .earlier) (ltb-true _ _ t) in omega (arith, o .0, o .1, one .ends)) (λ t. let n : lengthOf (clauseAt w (one .place)) .0 ≡ 0 = omega (arith, ltb-false 0 (lengthOf (clauseAt w (one .place)) .0) t) in absurd (omega (arith, sized-at w (one .place) .none n, one .ends))) in
+      record {
+        between =
+            λ q k. last-or (λ q. 0 < lengthOf (clauseAt w q) .0 → (m ≤ startOf (clauseAt w q) .0) × (behind (clauseAt w q) .0 ≤ d)) q k (λ i n. let o = x .between q i n in (omega (arith, o .0), omega (arith, o .1, z .0))) (λ n. (omega arith, omega (arith, z .0, least)));
+        has-highest = λ n. let o = later one in record { place = o .place; earlier = o .earlier; starts = o .starts ∙ sym (z .1); ends = o .ends ∙ sym (z .0) };
+      }
+  spanned l b h x some (the-highest less same r) m d g u v y =
+      let z = y less in
+      let one = x .has-highest (omega arith) in
+      record {
+        between =
+            λ q k. last-or (λ q. 0 < lengthOf (clauseAt w q) .0 → (m ≤ startOf (clauseAt w q) .0) × (behind (clauseAt w q) .0 ≤ d)) q k (λ i n. let o = x .between q i n in (omega (arith, o .0), omega (arith, o .1, z .0))) (λ n. (omega arith, omega (arith, z .0)));
+        has-highest = λ n. let o = later one in record { place = o .place; earlier = o .earlier; starts = o .starts ∙ sym (z .1); ends = o .ends ∙ sym (z .0) };
+      }
+
+  -- the sum has 64 bits
+  end-exact : quadwordsIn64 (behind (clauseAt w p)) ≡ behind (clauseAt w p)
+  end-exact = let small = sized-at w p in ap quadwords (omega (arith, small .low, small .few))
+
+  with-clear :
+      (s : Seen) → (clauseAt w p ≡ NoClause → ⊥) → isClear s (startOf (clauseAt w p)) (quadwordsIn64 (behind (clauseAt w p))) ≡ true → SeenBefore w e p s
+      → SeenBefore w e (suc p) (upTo s (startOf (clauseAt w p)) (quadwordsIn64 (behind (clauseAt w p))))
+  with-clear (Asked r) n c x = x
+  with-clear (Span l b h) n c x =
+      let how = clear-how l b h (startOf (clauseAt w p)) (behind (clauseAt w p)) (ap (isClear (Span l b h) (startOf (clauseAt w p))) (sym end-exact) ∙ c) in
+      by-test (isAtMost b (startOf (clauseAt w p)))
+      (λ t.
+      let up = leb-true (b .0) (startOf (clauseAt w p) .0) t in
+      rw t
+      (spanned (l .0) (b .0) (h .0) x (sized-at w p .some n) how _ _ _ refl (λ r. (ap (λ (q : Quadwords). q .0) end-exact, refl)) (λ r. absurd (omega arith))))
+      (λ t.
+      let down = leb-false (b .0) (startOf (clauseAt w p) .0) t in
+      rw t (spanned (l .0) (b .0) (h .0) x (sized-at w p .some n) how _ _ _ refl (λ r. absurd (omega arith)) (λ r. (refl, refl))))
 
   pub seen-next : (s t : Seen) → SeenBefore w e p s → SeenWith w e (clauseAt w p) s t → SeenBefore w e (suc p) t
-  seen-next s t h (opens-none z) = none-here s z h
-  seen-next s t h (rises {b} {c} some l f) =
-      let d : c .0 ≡ min (behind (clauseAt w p) .0) (2 ^ 64 - 1) = ap (λ (x : Quadwords). x .0) f in
-      let small = sized-at w p in
-      let exact : c .0 ≡ behind (clauseAt w p) .0 = omega (arith, small .low, small .few) in
-      and-here (c .0) (λ q k. omega (arith, h q k)) (omega arith)
-  seen-next s t h (turns some l f) = f
-  seen-next s t h (is-known some) = h
+  seen-next s t x (opens-none z) = none-here s z x
+  seen-next s t x (clear n c f) = subst (SeenBefore w e (suc p)) (sym f) (with-clear s n c x)
+  seen-next s t x (turns n c f) = f
 
   -- the rule at p, from what is known with its clause: where nothing before p breaks it, and p's clause lies in the words
   module _ (s t : Seen) (h : SeenBefore w e p s) (f : SeenWith w e (clauseAt w p) s t) (fit : (q : ℕ) → q < p → Fit (markedIn w) (clauseAt w) q)
@@ -260,29 +346,78 @@ module _ (w : List ℕ) (e p : ℕ) where
         let n : behind (clauseAt w p) .0 ≡ 0 = ap (λ (x : Clause). behind x .0) z in
         same-or-disjoint (clauseAt w q) (clauseAt w p) (inr (inr (omega arith)))
 
-    -- rising: all before end by the start
-    rising-apart : {b : Quadwords} → SeenBefore w e p (Rising b) → b .0 ≤ startOf (clauseAt w p) .0 → ApartFrom (clauseAt w) p
-    rising-apart h m q l = same-or-disjoint (clauseAt w q) (clauseAt w p) (inr (inl (omega (arith, h q l))))
+    -- two earlier clauses, whichever comes first
+    both-earlier : (q o : ℕ) → q < p → o < p → SameOrDisjoint (clauseAt w q) (clauseAt w o)
+    both-earlier q o a b =
+        by-test (ltb q o) (λ l. not-half (clauseAt w q) (clauseAt w o) (fit o b .apart q (ltb-true q o l)))
+        (λ l.
+        ⊎-elim (λ same. inl (ap (λ (j : ℕ). startOf (clauseAt w j) .0) (sym same), ap (λ (j : ℕ). lengthOf (clauseAt w j) .0) (sym same)))
+        (λ less. other-way (clauseAt w o) (clauseAt w q) (not-half (clauseAt w o) (clauseAt w q) (fit q a .apart o less)))
+        (eq-or-lt-of-le (ltb-false q o l)))
 
-    -- a place that opens no clause is not asked for
+    -- a range that an earlier place has is apart from all that that one is apart from
+    like-one : OneIs (clauseAt w) p (startOf (clauseAt w p) .0) (behind (clauseAt w p) .0) → ApartFrom (clauseAt w) p
+    like-one o q l =
+        same-or-disjoint (clauseAt w q) (clauseAt w p)
+        (⊎-elim (λ s. inl (s .0 ∙ o .starts, omega (arith, s .1, o .starts, o .ends)))
+        (λ d. inr (⊎-elim (λ x. inl (omega (arith, x, o .starts))) (λ x. inr (omega (arith, x, o .ends))) d))
+        (both-earlier q (o .place) l (o .earlier)))
+
+    -- clear of all before
+    span-apart :
+        (l b h : ℕ) → Spanned (clauseAt w) p l b h → 0 < lengthOf (clauseAt w p) .0
+        → Clear l b h (startOf (clauseAt w p) .0) (behind (clauseAt w p) .0) → ApartFrom (clauseAt w) p
+    span-apart l b h x some (behind-all r) q k =
+        same-or-disjoint (clauseAt w q) (clauseAt w p)
+        (by-test (ltb 0 (lengthOf (clauseAt w q) .0)) (λ t. inr (inl (omega (arith, x .between q k (ltb-true _ _ t) .1))))
+        (λ t.
+        let n : lengthOf (clauseAt w q) .0 ≡ 0 = omega (arith, ltb-false 0 (lengthOf (clauseAt w q) .0) t) in
+        inr (inl (omega (arith, sized-at w q .none n)))))
+    span-apart l b h x some (before-all less r) q k =
+        same-or-disjoint (clauseAt w q) (clauseAt w p)
+        (by-test (ltb 0 (lengthOf (clauseAt w q) .0)) (λ t. inr (inr (omega (arith, x .between q k (ltb-true _ _ t) .0))))
+        (λ t.
+        let n : lengthOf (clauseAt w q) .0 ≡ 0 = omega (arith, ltb-false 0 (lengthOf (clauseAt w q) .0) t) in
+        inr (inl (omega (arith, sized-at w q .none n)))))
+    span-apart l b h x some (the-highest less same r) q k =
+        let one = x .has-highest (omega arith) in
+        like-one (record { place = one .place; earlier = one .earlier; starts = one .starts ∙ same; ends = one .ends ∙ r }) q k
+
+    clear-apart :
+        (s : Seen) → (clauseAt w p ≡ NoClause → ⊥) → isClear s (startOf (clauseAt w p)) (quadwordsIn64 (behind (clauseAt w p))) ≡ true
+        → SeenBefore w e p s → names (upTo s (startOf (clauseAt w p)) (quadwordsIn64 (behind (clauseAt w p)))) (quadwords p) ≡ false
+        → ApartFrom (clauseAt w) p
+    clear-apart (Asked r) n c x m = first-unnamed r x m
+    clear-apart (Span l b h) n c x m =
+        span-apart (l .0) (b .0) (h .0) x (sized-at w p .some n)
+        (clear-how l b h (startOf (clauseAt w p)) (behind (clauseAt w p)) (ap (isClear (Span l b h) (startOf (clauseAt w p))) (sym end-exact) ∙ c))
+
+    -- a place with a clear range, or none, is not asked for
+    clear-unnamed :
+        (s : Seen) (start end : Quadwords) → SeenBefore w e p s → names (upTo s start end) (quadwords p) ≡ true → ApartFrom (clauseAt w) p → ⊥
+    clear-unnamed (Asked r) start end x m a = first-named r x m a
+    clear-unnamed (Span l b h) start end x m a = by (isAtMost b start) m
+      where
+        by : (t : Bool) → names (cond t (Span (quadwords (min (l .0) (start .0))) end start) (Span (quadwords (min (l .0) (start .0))) b h)) (quadwords p) ≡ true → ⊥
+        by true m = impossible cc
+        by false m = impossible cc
+
     none-named : (s : Seen) → SeenBefore w e p s → clauseAt w p ≡ NoClause → names s (quadwords p) ≡ true → ⊥
-    none-named (Rising b) h z n = impossible cc
-    none-named (Asked r) h z n = first-named r h n (empty-apart z)
+    none-named (Span l b h) x z n = impossible cc
+    none-named (Asked r) x z n = first-named r x n (empty-apart z)
 
     pub unnamed-apart : names t (quadwords p) ≡ false → ApartFrom (clauseAt w) p
     unnamed-apart n = by s t h f n
       where
         by : (s t : Seen) → SeenBefore w e p s → SeenWith w e (clauseAt w p) s t → names t (quadwords p) ≡ false → ApartFrom (clauseAt w) p
         by s t h (opens-none z) n = empty-apart z
-        by s t h (rises some l c) n = rising-apart h l
-        by s t h (turns {b} {r} some l u) n = first-unnamed r u n
-        by s t h (is-known {r} some) n = first-unnamed r h n
+        by s t h (clear some c g) n = clear-apart s some c h (ap (λ (x : Seen). names x (quadwords p)) (sym g) ∙ n)
+        by s t h (turns {r} some c u) n = first-unnamed r u n
 
     pub named-not-apart : names t (quadwords p) ≡ true → ApartFrom (clauseAt w) p → ⊥
     named-not-apart n = by s t h f n
       where
         by : (s t : Seen) → SeenBefore w e p s → SeenWith w e (clauseAt w p) s t → names t (quadwords p) ≡ true → ApartFrom (clauseAt w) p → ⊥
         by s t h (opens-none z) n a = none-named s h z n
-        by s t h (rises some l c) n a = impossible cc
-        by s t h (turns {b} {r} some l u) n a = first-named r u n a
-        by s t h (is-known {r} some) n a = first-named r h n a
+        by s t h (clear some c g) n a = clear-unnamed s _ _ h (ap (λ (x : Seen). names x (quadwords p)) (sym g) ∙ n) a
+        by s t h (turns {r} some c u) n a = first-named r u n a

@@ -1,13 +1,13 @@
--- What only the code's contracts cite: what is known of the clauses opened so far. As long as they come in rising order that is the
--- quadword behind them all; from the first that does not, it is the first place that breaks the rule.
-use Prim.Native.Nat.{ℕ, suc, _+_, _≤_, _<_, min}
+-- What only the code's contracts cite: what is known of the clauses opened so far. As long as each lies outside of those before it, or is the
+-- highest once more, that is where they lie; from the first that does not, it is the first place that breaks the rule.
+use Prim.Native.Nat.{ℕ, suc, _+_, _-_, _^_, _≤_, _<_, min}
 use mathlib.Core.Path.{_≡_}
-use mathlib.Core.Bool.{Bool, true, false}
+use mathlib.Core.Bool.{Bool, true, false, cond, _&&_, _||_}
 use mathlib.Core.List.{List}
 use lib.Dec.{eqb}
 use lib.ListN.{length, getD}
 use Rattle.units.specs.declared.Quadwords.{Quadwords}
-use Rattle.units.specs.Units.{words, wholeQuadwords, isAtMost}
+use Rattle.units.specs.Units.{quadwords, words, wholeQuadwords, isAtMost}
 use Rattle.units.specs.Code.{quadwordsIn64}
 use Rattle.section.specs.declared.Clause.{Clause}
 use Rattle.section.specs.declared.Clause.the-variants.{NoClause}
@@ -15,7 +15,7 @@ use Rattle.section.specs.Rules.{clauseAt}
 use Rattle.apart.specs.Apart.{startOf, lengthOf, behind, halfShared}
 use Rattle.apart.specs.declared.ranges.Range.{Range}
 use Rattle.apart.specs.declared.Seen.{Seen}
-use Rattle.apart.specs.declared.Seen.the-variants.{Rising, Asked}
+use Rattle.apart.specs.declared.Seen.the-variants.{Span, Asked}
 
 -- a clause's range as the code has it
 abbrev pub rangeOf : Clause → Range
@@ -51,32 +51,52 @@ FirstNotApart w e r = FirstUnfit (markedIn w) (clauseAt w) (min (suc e) (quadwor
 
 -- ---- what is known of the clauses so far
 
--- with one clause more: none is opened; it starts at or behind the end of all before; it does not, and the first place is asked for; that is
--- known already
-pub data SeenWith (w : List ℕ) (e : ℕ) (k : Clause) : Seen → Seen → Type 0 where
-  opens-none : {s : Seen} → k ≡ NoClause → SeenWith w e k s s
-  rises :
-      {b c : Quadwords} → (k ≡ NoClause → ⊥) → b .0 ≤ startOf k .0 → c ≡ quadwordsIn64 (behind k) → SeenWith w e k (Rising b) (Rising c)
-  turns : {b r : Quadwords} → (k ≡ NoClause → ⊥) → startOf k .0 < b .0 → FirstNotApart w e (r .0) → SeenWith w e k (Rising b) (Asked r)
-  is-known : {r : Quadwords} → (k ≡ NoClause → ⊥) → SeenWith w e k (Asked r) (Asked r)
+-- a place before p has that range
+pub record OneIs (opens : ℕ → Clause) (p start end : ℕ) : Type 0 where
+  pub place : ℕ
+  pub earlier : place < p
+  pub starts : startOf (opens place) .0 ≡ start
+  pub ends : behind (opens place) .0 ≡ end
 
--- what that says of the places before p
+-- before the first clause; no clause starts at 2^32 - 1 or behind it and ends in a pack
+abbrev pub noneSeen : Seen
+noneSeen = Span (quadwords (2 ^ 32 - 1)) (quadwords 0) (quadwords 0)
+
+-- a range is behind all before it, before all of them, or the highest of them; from when on the first place is known it does not matter
+abbrev pub isClear : Seen → Quadwords → Quadwords → Bool
+isClear (Span lowest behind highest) start end =
+    isAtMost behind start || (isAtMost end lowest || (eqb (highest .0) (start .0) && eqb (behind .0) (end .0)))
+isClear (Asked r) start end = true
+
+-- with it
+abbrev pub upTo : Seen → Quadwords → Quadwords → Seen
+upTo (Span lowest behind highest) start end =
+    cond (isAtMost behind start) (Span (quadwords (min (lowest .0) (start .0))) end start)
+    (Span (quadwords (min (lowest .0) (start .0))) behind highest)
+upTo (Asked r) start end = Asked r
+
+-- with one clause more: none is opened; its range is clear; it is not, and the first place is asked for
+pub data SeenWith (w : List ℕ) (e : ℕ) (k : Clause) (s : Seen) : Seen → Type 0 where
+  opens-none : k ≡ NoClause → SeenWith w e k s s
+  clear :
+      {r : Seen} → (k ≡ NoClause → ⊥) → isClear s (startOf k) (quadwordsIn64 (behind k)) ≡ true → r ≡ upTo s (startOf k) (quadwordsIn64 (behind k))
+      → SeenWith w e k s r
+  turns :
+      {r : Quadwords} → (k ≡ NoClause → ⊥) → isClear s (startOf k) (quadwordsIn64 (behind k)) ≡ false → FirstNotApart w e (r .0)
+      → SeenWith w e k s (Asked r)
+
+-- what that says of the places before p: all ranges lie between the lowest start and the quadword behind, and one is the highest
+pub record Spanned (opens : ℕ → Clause) (p lowest end highest : ℕ) : Type 0 where
+  pub between : (q : ℕ) → q < p → 0 < lengthOf (opens q) .0 → (lowest ≤ startOf (opens q) .0) × (behind (opens q) .0 ≤ end)
+  pub has-highest : 0 < end → OneIs opens p highest end
+
 abbrev pub SeenBefore : List ℕ → ℕ → ℕ → Seen → Type 0
-SeenBefore w e p (Rising b) = (q : ℕ) → q < p → behind (clauseAt w q) .0 ≤ b .0
+SeenBefore w e p (Span lowest end highest) = Spanned (clauseAt w) p (lowest .0) (end .0) (highest .0)
 SeenBefore w e p (Asked r) = FirstNotApart w e (r .0)
-
--- whether a start is at or behind the end of all before, or that does not matter any more; and what is known once a clause ends there
-abbrev pub isRising : Seen → Quadwords → Bool
-isRising (Rising b) start = isAtMost b start
-isRising (Asked r) start = true
-
-abbrev pub upTo : Seen → Quadwords → Seen
-upTo (Rising b) c = Rising c
-upTo (Asked r) c = Asked r
 
 -- the place that is known to break the rule is p
 abbrev pub names : Seen → Quadwords → Bool
-names (Rising b) p = false
+names (Span lowest behind highest) p = false
 names (Asked r) p = eqb (r .0) (p .0)
 
 -- ---- marks: one to a quadword. 0: no clause lies there; n + 1: one of n quadwords starts there; 1: it goes on there

@@ -1,8 +1,9 @@
 // Rule 22: a fetch clause starts at an even quadword, and two clauses are either the same range or disjoint (document 02, request 4).
 //
-// Clauses mostly come in the order of their openers. Then each starts at or behind the end of all before it, which is one comparison. At the
-// first that does not, the pairs are looked at once more, with a mark to each quadword (`marks`), and the first whose clause is not apart from
-// those before is known from then on. So a pack without such a clause has no marks, and one with many has each quadword marked once.
+// Clauses mostly come in the order of their openers. Then each starts at or behind the end of all before it, which is one comparison; and it is as
+// plain where one ends by the start of all before it, or is the highest of them once more. At the first that is none of these the pairs are looked
+// at again, with a mark to each quadword (`marks`), and the first whose clause is not apart from those before is known from then on. So most packs
+// have no marks, and in any other each quadword is marked once.
 mod marks;
 mod ranges;
 
@@ -10,13 +11,29 @@ use section::Clause;
 use units::Quadwords;
 ghost use mathlib.Core.Path.{_≡_};
 ghost use Rattle.apart.specs.Apart.{oddFetch};
-ghost use Rattle.apart.specs.Code.{SeenWith, isRising, upTo, names};
+ghost use Rattle.apart.specs.Code.{SeenWith, noneSeen, isClear, upTo, names};
 
-// What is known of the clauses that are opened so far: the quadword behind them all, as long as they rise; else the first place of the section
-// whose clause is not apart from those before it.
+// What is known of the clauses that are opened so far. As long as each lies outside of those before it, or is the highest once more: the lowest
+// start, the quadword behind them all, and the start of the highest. Then the first place of the section whose clause is not apart from those
+// before it.
 pub enum Seen {
-    Rising(Quadwords),
+    Span {
+        lowest: Quadwords,
+        behind: Quadwords,
+        highest: Quadwords,
+    },
     Asked(Quadwords),
+}
+
+// Before the first clause: none is lower, or ends later.
+pub fn none_seen() -> Seen
+    ensures { λ r. ⌜ r ≡ noneSeen ⌝ }
+{
+    Seen::Span {
+        lowest: Quadwords(0xffff_ffff),
+        behind: Quadwords(0),
+        highest: Quadwords(0),
+    }
 }
 
 // A fetch clause that starts at an odd quadword.
@@ -54,8 +71,9 @@ pub fn seen_with(words: &[u32], end: Quadwords, seen: Seen, clause: Clause) -> S
             mode0: _,
             mode1: _,
         } => {
-            if is_rising(seen, start) {
-                return up_to(seen, units::range_end(start, units::slots_length(slots)));
+            let behind = units::range_end(start, units::slots_length(slots));
+            if is_clear(seen, start, behind) {
+                return up_to(seen, start, behind);
             }
             Seen::Asked(marks::first_not_apart(words, end))
         }
@@ -64,30 +82,63 @@ pub fn seen_with(words: &[u32], end: Quadwords, seen: Seen, clause: Clause) -> S
             fetches,
             kind: _,
         } => {
-            if is_rising(seen, start) {
-                return up_to(seen, units::range_end(start, units::fetches_length(fetches)));
+            let behind = units::range_end(start, units::fetches_length(fetches));
+            if is_clear(seen, start, behind) {
+                return up_to(seen, start, behind);
             }
             Seen::Asked(marks::first_not_apart(words, end))
         }
     }
 }
 
-// Whether a clause that starts there needs no search.
-fn is_rising(seen: Seen, start: Quadwords) -> bool
-    ensures { λ r. ⌜ r ≡ isRising seen start ⌝ }
+// Whether a range needs no search.
+fn is_clear(seen: Seen, start: Quadwords, end: Quadwords) -> bool
+    ensures { λ r. ⌜ r ≡ isClear seen start end ⌝ }
 {
     match seen {
-        Seen::Rising(behind) => units::is_at_most(behind, start),
+        Seen::Span {
+            lowest,
+            behind,
+            highest,
+        } => {
+            if units::is_at_most(behind, start) {
+                return true;
+            }
+            if units::is_at_most(end, lowest) {
+                return true;
+            }
+            if highest.0 != start.0 {
+                return false;
+            }
+            behind.0 == end.0
+        }
         Seen::Asked(_) => true,
     }
 }
 
-// With a clause that ends there.
-fn up_to(seen: Seen, behind: Quadwords) -> Seen
-    ensures { λ r. ⌜ r ≡ upTo seen behind ⌝ }
+// With such a range more.
+fn up_to(seen: Seen, start: Quadwords, end: Quadwords) -> Seen
+    ensures { λ r. ⌜ r ≡ upTo seen start end ⌝ }
 {
     match seen {
-        Seen::Rising(_) => Seen::Rising(behind),
+        Seen::Span {
+            lowest,
+            behind,
+            highest,
+        } => {
+            if units::is_at_most(behind, start) {
+                return Seen::Span {
+                    lowest: Quadwords(units::smaller(lowest.0, start.0)),
+                    behind: end,
+                    highest: start,
+                };
+            }
+            Seen::Span {
+                lowest: Quadwords(units::smaller(lowest.0, start.0)),
+                behind,
+                highest,
+            }
+        }
         Seen::Asked(place) => Seen::Asked(place),
     }
 }
@@ -97,7 +148,11 @@ pub fn names(seen: Seen, place: Quadwords) -> bool
     ensures { λ r. ⌜ r ≡ names seen place ⌝ }
 {
     match seen {
-        Seen::Rising(_) => false,
+        Seen::Span {
+            lowest: _,
+            behind: _,
+            highest: _,
+        } => false,
         Seen::Asked(first) => first.0 == place.0,
     }
 }

@@ -120,7 +120,7 @@ fn first_pass(
         marks: 0,
         depth: 0,
     };
-    let mut seen = Seen::Rising(Quadwords(0));
+    let mut seen = apart::none_seen();
     let mut p = Quadwords(0);
     while units::is_at_most(p, e) {
         let pair = pairs::pair_at(words, p);

@@ -1,7 +1,7 @@
 -- `judge::first_pass` meets its contract. The loop's invariant is the first pass's standing before a place. Assumes nothing.
 use borrow.Author.Needs.{needs}
 use borrow.Author.Tests.{leb-true, leb-false}
-use mathlib.Core.Path.{_≡_, refl, sym, ap, _∙_}
+use mathlib.Core.Path.{_≡_, refl, sym, ap, _∙_, subst}
 use native.Mathlib.Numerals.{add-one}
 use Prim.Native.Nat.{suc, _-_}
 use native.Mathlib.Omega.{arith}
@@ -25,14 +25,15 @@ abbrev μ-loop : tie.MeasureT-loop
 
 loop-holds : tie.Need-loop-holds Inv-loop μ-loop
 loop-holds c =
-    let z = c .before .before .before in
+    let z = c .before .before .before .before in
     let w = now (z .args .words) in
-    (standing-first (z .args .card) w (z .args .e .0) _ _ (z .pre), seen-first w (z .args .e .0), refl, refl)
+    let seen = subst (SeenBefore w (z .args .e .0) 0) (sym (c .none-seen .ensures)) (seen-first w (z .args .e .0)) in
+    (standing-first (z .args .card) w (z .args .e .0) _ _ (z .pre), seen, refl, refl)
 
 pair-at-requires : tie.Need-pair-at-requires Inv-loop μ-loop
 pair-at-requires c κs =
     let loop = c .before .before in
-    let a = loop .before .before .before .before .args in
+    let a = loop .before .before .before .before .before .args in
     is-quadword (a .card) (now (a .words)) (a .e .0) (loop .loop .p .0) (loop .loop .inv .0 .section .in-words)
     (leb-true (loop .loop .p .0) (a .e .0) (sym (c .before .is-at-most .ensures) ∙ c .if1 .taken))
 
@@ -42,7 +43,7 @@ first-at-requires c κs =
     let pair = seen .before in
     let test = pair .before in
     let loop = test .before .before in
-    let a = loop .before .before .before .before .args in
+    let a = loop .before .before .before .before .before .args in
     let at : At (a .card) (now (a .words)) (a .e .0) (loop .loop .p .0) (loop .loop .s) (loop .loop .tops) (loop .loop .marks) =
     record {
       standing = loop .loop .inv .0;
@@ -70,7 +71,7 @@ returns : tie.Need-returns Inv-loop μ-loop
 returns c =
     let first = c .before .before .before .before .before .before .before in
     let loop = first .before .before .before .before .before .before .before in
-    let a = loop .before .before .before .before .args in
+    let a = loop .before .before .before .before .before .args in
     passing-found (a .card) (now (a .words)) (a .e .0) (loop .loop .p .0) _ _ (first .first-at .ensures) (c .before .ahead .given .1)
 
 loop-less : tie.Need-loop-less Inv-loop μ-loop
@@ -78,7 +79,7 @@ loop-less c =
     let first = c .before .before .before .before .before .before .before .before in
     let test = first .before .before .before .before .before in
     let loop = test .before .before in
-    let a = loop .before .before .before .before .args in
+    let a = loop .before .before .before .before .before .args in
     let l = leb-true (loop .loop .p .0) (a .e .0) (sym (test .before .is-at-most .ensures) ∙ test .if1 .taken) in
     let next = behind-exact (loop .loop .p) _ (c .quadword-behind .ensures) (omega (arith, l, loop .loop .inv .0 .section .in-words .among-512)) in
     omega (arith, l, next)
@@ -90,7 +91,7 @@ loop-again c =
     let pair = seen .before in
     let test = pair .before in
     let loop = test .before .before in
-    let a = loop .before .before .before .before .args in
+    let a = loop .before .before .before .before .before .args in
     let l = leb-true (loop .loop .p .0) (a .e .0) (sym (test .before .is-at-most .ensures) ∙ test .if1 .taken) in
     let next = behind-exact (loop .loop .p) _ (c .quadword-behind .ensures) (omega (arith, l, loop .loop .inv .0 .section .in-words .among-512)) ∙ add-one (loop .loop .p .0) in
     let is = ap (λ (x : Pair). x .clause) (pair .pair-at .ensures) in (
@@ -109,7 +110,7 @@ same-length-4 c = omega (arith, c .before .before .loop .inv .3)
 returns-2 : tie.Need-returns-2 Inv-loop μ-loop
 returns-2 c =
     let loop = c .before .before in
-    let a = loop .before .before .before .before .args in
+    let a = loop .before .before .before .before .before .args in
     passing-all (a .card) (now (a .words)) (a .e .0) (loop .loop .p .0) _ _ (loop .loop .inv .0)
     (leb-false (loop .loop .p .0) (a .e .0) (sym (c .before .is-at-most .ensures) ∙ c .if1 .left))
 
@@ -119,6 +120,7 @@ first-pass-spec =
     (tie.spec
     Inv-loop
     μ-loop
+    (λ c κs. tt)
     loop-holds
     (λ c κs. tt)
     pair-at-requires
