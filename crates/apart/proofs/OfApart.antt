@@ -29,9 +29,9 @@ use Rattle.section.specs.Control.{controlOf, controlAt}
 use Rattle.section.specs.Rules.{clauseOf, clauseAt}
 use Rattle.apart.specs.declared.ranges.Range.{Range}
 use Rattle.apart.specs.declared.Seen.{Seen}
-use Rattle.apart.specs.declared.Seen.the-variants.{Span, Asked}
+use Rattle.apart.specs.declared.Seen.the-variants.{Rising, Asked}
 use Rattle.apart.specs.Apart.{startOf, lengthOf, behind, sameRange, disjoint, halfShared, oddFetch, sharedChecks, layoutChecks, SameOrDisjoint}
-use Rattle.apart.specs.Code.{rangeOf, ApartFrom, Fit, FirstUnfit, FirstNotApart, quadwordsIn, markedIn, OneIs, SeenWith, opens-none, clear, turns, Spanned, SeenBefore, noneSeen, isClear, upTo, names}
+use Rattle.apart.specs.Code.{rangeOf, ApartFrom, Fit, FirstUnfit, FirstNotApart, quadwordsIn, markedIn, OneIs, SeenWith, opens-none, clear, turns, Risen, SeenBefore, noneSeen, isClear, upTo, names}
 
 -- ---- two clauses
 
@@ -131,16 +131,15 @@ pub record Sized (k : Clause) : Type 0 where
   pub few : lengthOf k .0 ≤ 128
   pub low : startOf k .0 < 2 ^ 32
   pub none : lengthOf k .0 ≡ 0 → startOf k .0 ≡ 0
-  pub some : (k ≡ NoClause → ⊥) → 0 < lengthOf k .0
 
 pub clause-sized : (c : Control) (lo hi : ℕ) → Sized (clauseOf c lo hi)
 unfolding clauseOf
-clause-sized NotTaken lo hi = record { few = omega arith; low = omega arith; none = λ z. refl; some = λ n. absurd (n refl) }
-clause-sized Nop lo hi = record { few = omega arith; low = omega arith; none = λ z. refl; some = λ n. absurd (n refl) }
-clause-sized (Fetch kind) lo hi = record { few = omega arith; low = omega arith; none = λ z. absurd (omega arith); some = λ n. omega arith }
-clause-sized (Branch b) lo hi = record { few = omega arith; low = omega arith; none = λ z. refl; some = λ n. absurd (n refl) }
-clause-sized Export lo hi = record { few = omega arith; low = omega arith; none = λ z. refl; some = λ n. absurd (n refl) }
-clause-sized (Alu push pops) lo hi = record { few = omega arith; low = omega arith; none = λ z. absurd (omega arith); some = λ n. omega arith }
+clause-sized NotTaken lo hi = record { few = omega arith; low = omega arith; none = λ z. refl }
+clause-sized Nop lo hi = record { few = omega arith; low = omega arith; none = λ z. refl }
+clause-sized (Fetch kind) lo hi = record { few = omega arith; low = omega arith; none = λ z. absurd (omega arith) }
+clause-sized (Branch b) lo hi = record { few = omega arith; low = omega arith; none = λ z. refl }
+clause-sized Export lo hi = record { few = omega arith; low = omega arith; none = λ z. refl }
+clause-sized (Alu push pops) lo hi = record { few = omega arith; low = omega arith; none = λ z. absurd (omega arith) }
 
 pub sized-at : (w : List ℕ) (p : ℕ) → Sized (clauseAt w p)
 unfolding clauseAt
@@ -174,27 +173,16 @@ range-here w p a b c d f =
 
 -- ---- with one clause more, from what the tests answered
 
-module _ {seen : Seen} {l b h : Quadwords} (f : seen ≡ Span l b h) (s c : Quadwords) {t : Bool} (g : t ≡ isAtMost b s) where
+module _ {seen : Seen} {b h : Quadwords} (f : seen ≡ Rising b h) (s c : Quadwords) {t : Bool} (g : t ≡ isAtMost b s) where
   pub clear-behind : t ≡ true → true ≡ isClear seen s c
   clear-behind e = rw (f, sym g ∙ e)
 
-  pub up-behind : {m : ℕ} → t ≡ true → m ≡ min (l .0) (s .0) → Span (quadwords m) c s ≡ upTo seen s c
-  up-behind e k = rw (f, sym g ∙ e) (λ i. Span (quadwords (k i)) c s)
-
   module _ (e : t ≡ false) where
-    pub up-else : {m : ℕ} → m ≡ min (l .0) (s .0) → Span (quadwords m) b h ≡ upTo seen s c
-    up-else k = rw (f, sym g ∙ e) (λ i. Span (quadwords (k i)) b h)
+    pub not-highest : (h .0 ≡ s .0 → ⊥) → false ≡ isClear seen s c
+    not-highest n = rw (f, sym g ∙ e, ne-eqb (h .0) (s .0) n)
 
-    module _ {u : Bool} (k : u ≡ isAtMost c l) where
-      pub clear-before : u ≡ true → true ≡ isClear seen s c
-      clear-before x = rw (f, sym g ∙ e, sym k ∙ x)
-
-      module _ (x : u ≡ false) where
-        pub not-highest : (h .0 ≡ s .0 → ⊥) → false ≡ isClear seen s c
-        not-highest n = rw (f, sym g ∙ e, sym k ∙ x, ne-eqb (h .0) (s .0) n)
-
-        pub if-highest : h .0 ≡ s .0 → eqb (b .0) (c .0) ≡ isClear seen s c
-        if-highest n = rw (f, sym g ∙ e, sym k ∙ x, eq-eqb (h .0) (s .0) n)
+    pub if-highest : h .0 ≡ s .0 → eqb (b .0) (c .0) ≡ isClear seen s c
+    if-highest n = rw (f, sym g ∙ e, eq-eqb (h .0) (s .0) n)
 
 -- of a clause that starts at s and ends before c
 module _ (w : List ℕ) (e : ℕ) (k : Clause) (some : k ≡ NoClause → ⊥) {s c : Quadwords} (starts : s ≡ startOf k) (ends : c ≡ quadwordsIn64 (behind k))
@@ -234,24 +222,20 @@ module _ {k : Clause} {s : Quadwords} {n : Slots} where
 -- ---- what is known as the places go by
 
 pub seen-first : (w : List ℕ) (e : ℕ) → SeenBefore w e 0 noneSeen
-seen-first w e = record { between = λ q l. absurd (omega arith); has-highest = λ l. absurd (omega arith) }
+seen-first w e = record { below = λ q l. absurd (omega arith); has-highest = λ l. absurd (omega arith) }
 
--- the three ways in which a range can be clear
-data Clear (lowest end highest s c : ℕ) : Type 0 where
-  behind-all : end ≤ s → Clear lowest end highest s c
-  before-all : s < end → c ≤ lowest → Clear lowest end highest s c
-  the-highest : s < end → highest ≡ s → end ≡ c → Clear lowest end highest s c
+-- the two ways in which a range can be clear
+data Clear (end highest s c : ℕ) : Type 0 where
+  behind-all : end ≤ s → Clear end highest s c
+  the-highest : s < end → highest ≡ s → end ≡ c → Clear end highest s c
 
-clear-how : (l b h s c : Quadwords) → isClear (Span l b h) s c ≡ true → Clear (l .0) (b .0) (h .0) (s .0) (c .0)
-clear-how l b h s c e =
+clear-how : (b h s c : Quadwords) → isClear (Rising b h) s c ≡ true → Clear (b .0) (h .0) (s .0) (c .0)
+clear-how b h s c e =
     by-test (isAtMost b s) (λ x. behind-all (leb-true (b .0) (s .0) x))
     (λ x.
-    let less = leb-false (b .0) (s .0) x in
-    by-test (isAtMost c l) (λ y. before-all less (leb-true (c .0) (l .0) y))
-    (λ y.
-    let z : eqb (h .0) (s .0) && eqb (b .0) (c .0) ≡ true = rw (x, y) at e in
+    let z : eqb (h .0) (s .0) && eqb (b .0) (c .0) ≡ true = rw x at e in
     let both-are = both (eqb (h .0) (s .0)) (eqb (b .0) (c .0)) z in
-    the-highest less (eqb-true (h .0) (s .0) (both-are .0)) (eqb-true (b .0) (c .0) (both-are .1))))
+    the-highest (leb-false (b .0) (s .0) x) (eqb-true (h .0) (s .0) (both-are .0)) (eqb-true (b .0) (c .0) (both-are .1)))
 
 module _ (w : List ℕ) (e p : ℕ) where
   last-or : (P : ℕ → Type 0) (q : ℕ) → q < suc p → (q < p → P q) → P p → P q
@@ -261,68 +245,45 @@ module _ (w : List ℕ) (e p : ℕ) where
   later o = record { place = o .place; earlier = le-step (o .earlier); starts = o .starts; ends = o .ends }
 
   none-here : (s : Seen) → clauseAt w p ≡ NoClause → SeenBefore w e p s → SeenBefore w e (suc p) s
-  none-here (Span l b h) z x =
-      let n : lengthOf (clauseAt w p) .0 ≡ 0 = ap (λ (y : Clause). lengthOf y .0) z in
+  none-here (Rising b h) z x =
+      let n : behind (clauseAt w p) .0 ≡ 0 = ap (λ (y : Clause). behind y .0) z in
       record {
-        between =
-            λ q k. last-or (λ q. 0 < lengthOf (clauseAt w q) .0 → (l .0 ≤ startOf (clauseAt w q) .0) × (behind (clauseAt w q) .0 ≤ b .0)) q k (x .between q) (λ y. absurd (omega arith));
+        below = λ q k. last-or (λ q. behind (clauseAt w q) .0 ≤ b .0) q k (x .below q) (omega arith);
         has-highest = λ y. later (x .has-highest y);
       }
   none-here (Asked r) z x = x
 
-  -- where all ranges before lie, with one that is clear
-  spanned :
-      (l b h : ℕ) → Spanned (clauseAt w) p l b h → 0 < lengthOf (clauseAt w p) .0
-      → Clear l b h (startOf (clauseAt w p) .0) (behind (clauseAt w p) .0) → (m d g : ℕ) → m ≡ min l (startOf (clauseAt w p) .0)
-      → (b ≤ startOf (clauseAt w p) .0 → (d ≡ behind (clauseAt w p) .0) × (g ≡ startOf (clauseAt w p) .0))
-      → (startOf (clauseAt w p) .0 < b → (d ≡ b) × (g ≡ h)) → Spanned (clauseAt w) (suc p) m d g
-  spanned l b h x some (behind-all r) m d g u v y =
-      let z = v r in
+  -- with a range that is clear, which is the highest then
+  risen :
+      (b h d : ℕ) → Risen (clauseAt w) p b h → Clear b h (startOf (clauseAt w p) .0) (behind (clauseAt w p) .0) → d ≡ behind (clauseAt w p) .0
+      → Risen (clauseAt w) (suc p) d (startOf (clauseAt w p) .0)
+  risen b h d x c v =
+      let most = at-most c in
       record {
-        between =
-            λ q k. last-or (λ q. 0 < lengthOf (clauseAt w q) .0 → (m ≤ startOf (clauseAt w q) .0) × (behind (clauseAt w q) .0 ≤ d)) q k (λ i n. let o = x .between q i n in (omega (arith, o .0), omega (arith, o .1, z .0))) (λ n. (omega arith, omega (arith, z .0)));
-        has-highest = λ n. record { place = p; earlier = le-refl (suc p); starts = sym (z .1); ends = sym (z .0) };
+        below = λ q k. last-or (λ q. behind (clauseAt w q) .0 ≤ d) q k (λ i. omega (arith, x .below q i, most)) (omega arith);
+        has-highest = λ n. record { place = p; earlier = le-refl (suc p); starts = refl; ends = sym v };
       }
-  spanned l b h x some (before-all less r) m d g u v y =
-      let z = y less in
-      let one = x .has-highest (omega arith) in
-      let least : l ≤ b = by-test (ltb 0 (lengthOf (clauseAt w (one .place)) .0)) (λ t. let o = x .between (one .place) (one .earlier) (ltb-true _ _ t) in omega (arith, o .0, o .1, one .ends)) (λ t. let n : lengthOf (clauseAt w (one .place)) .0 ≡ 0 = omega (arith, ltb-false 0 (lengthOf (clauseAt w (one .place)) .0) t) in absurd (omega (arith, sized-at w (one .place) .none n, one .ends))) in
-      record {
-        between =
-            λ q k. last-or (λ q. 0 < lengthOf (clauseAt w q) .0 → (m ≤ startOf (clauseAt w q) .0) × (behind (clauseAt w q) .0 ≤ d)) q k (λ i n. let o = x .between q i n in (omega (arith, o .0), omega (arith, o .1, z .0))) (λ n. (omega arith, omega (arith, z .0, least)));
-        has-highest = λ n. let o = later one in record { place = o .place; earlier = o .earlier; starts = o .starts ∙ sym (z .1); ends = o .ends ∙ sym (z .0) };
-      }
-  spanned l b h x some (the-highest less same r) m d g u v y =
-      let z = y less in
-      let one = x .has-highest (omega arith) in
-      record {
-        between =
-            λ q k. last-or (λ q. 0 < lengthOf (clauseAt w q) .0 → (m ≤ startOf (clauseAt w q) .0) × (behind (clauseAt w q) .0 ≤ d)) q k (λ i n. let o = x .between q i n in (omega (arith, o .0), omega (arith, o .1, z .0))) (λ n. (omega arith, omega (arith, z .0)));
-        has-highest = λ n. let o = later one in record { place = o .place; earlier = o .earlier; starts = o .starts ∙ sym (z .1); ends = o .ends ∙ sym (z .0) };
-      }
+    where
+      at-most : Clear b h (startOf (clauseAt w p) .0) (behind (clauseAt w p) .0) → b ≤ behind (clauseAt w p) .0
+      at-most (behind-all r) = omega arith
+      at-most (the-highest less same r) = omega arith
 
   -- the sum has 64 bits
   end-exact : quadwordsIn64 (behind (clauseAt w p)) ≡ behind (clauseAt w p)
   end-exact = let small = sized-at w p in ap quadwords (omega (arith, small .low, small .few))
 
   with-clear :
-      (s : Seen) → (clauseAt w p ≡ NoClause → ⊥) → isClear s (startOf (clauseAt w p)) (quadwordsIn64 (behind (clauseAt w p))) ≡ true → SeenBefore w e p s
+      (s : Seen) → isClear s (startOf (clauseAt w p)) (quadwordsIn64 (behind (clauseAt w p))) ≡ true → SeenBefore w e p s
       → SeenBefore w e (suc p) (upTo s (startOf (clauseAt w p)) (quadwordsIn64 (behind (clauseAt w p))))
-  with-clear (Asked r) n c x = x
-  with-clear (Span l b h) n c x =
-      let how = clear-how l b h (startOf (clauseAt w p)) (behind (clauseAt w p)) (ap (isClear (Span l b h) (startOf (clauseAt w p))) (sym end-exact) ∙ c) in
-      by-test (isAtMost b (startOf (clauseAt w p)))
-      (λ t.
-      let up = leb-true (b .0) (startOf (clauseAt w p) .0) t in
-      rw t
-      (spanned (l .0) (b .0) (h .0) x (sized-at w p .some n) how _ _ _ refl (λ r. (ap (λ (q : Quadwords). q .0) end-exact, refl)) (λ r. absurd (omega arith))))
-      (λ t.
-      let down = leb-false (b .0) (startOf (clauseAt w p) .0) t in
-      rw t (spanned (l .0) (b .0) (h .0) x (sized-at w p .some n) how _ _ _ refl (λ r. absurd (omega arith)) (λ r. (refl, refl))))
+  with-clear (Asked r) c x = x
+  with-clear (Rising b h) c x =
+      risen (b .0) (h .0) _ x
+      (clear-how b h (startOf (clauseAt w p)) (behind (clauseAt w p)) (ap (isClear (Rising b h) (startOf (clauseAt w p))) (sym end-exact) ∙ c))
+      (ap (λ (q : Quadwords). q .0) end-exact)
 
   pub seen-next : (s t : Seen) → SeenBefore w e p s → SeenWith w e (clauseAt w p) s t → SeenBefore w e (suc p) t
   seen-next s t x (opens-none z) = none-here s z x
-  seen-next s t x (clear n c f) = subst (SeenBefore w e (suc p)) (sym f) (with-clear s n c x)
+  seen-next s t x (clear n c f) = subst (SeenBefore w e (suc p)) (sym f) (with-clear s c x)
   seen-next s t x (turns n c f) = f
 
   -- the rule at p, from what is known with its clause: where nothing before p breaks it, and p's clause lies in the words
@@ -364,46 +325,31 @@ module _ (w : List ℕ) (e p : ℕ) where
         (both-earlier q (o .place) l (o .earlier)))
 
     -- clear of all before
-    span-apart :
-        (l b h : ℕ) → Spanned (clauseAt w) p l b h → 0 < lengthOf (clauseAt w p) .0
-        → Clear l b h (startOf (clauseAt w p) .0) (behind (clauseAt w p) .0) → ApartFrom (clauseAt w) p
-    span-apart l b h x some (behind-all r) q k =
-        same-or-disjoint (clauseAt w q) (clauseAt w p)
-        (by-test (ltb 0 (lengthOf (clauseAt w q) .0)) (λ t. inr (inl (omega (arith, x .between q k (ltb-true _ _ t) .1))))
-        (λ t.
-        let n : lengthOf (clauseAt w q) .0 ≡ 0 = omega (arith, ltb-false 0 (lengthOf (clauseAt w q) .0) t) in
-        inr (inl (omega (arith, sized-at w q .none n)))))
-    span-apart l b h x some (before-all less r) q k =
-        same-or-disjoint (clauseAt w q) (clauseAt w p)
-        (by-test (ltb 0 (lengthOf (clauseAt w q) .0)) (λ t. inr (inr (omega (arith, x .between q k (ltb-true _ _ t) .0))))
-        (λ t.
-        let n : lengthOf (clauseAt w q) .0 ≡ 0 = omega (arith, ltb-false 0 (lengthOf (clauseAt w q) .0) t) in
-        inr (inl (omega (arith, sized-at w q .none n)))))
-    span-apart l b h x some (the-highest less same r) q k =
+    rising-apart :
+        (b h : ℕ) → Risen (clauseAt w) p b h → Clear b h (startOf (clauseAt w p) .0) (behind (clauseAt w p) .0) → ApartFrom (clauseAt w) p
+    rising-apart b h x (behind-all r) q k =
+        same-or-disjoint (clauseAt w q) (clauseAt w p) (inr (inl (omega (arith, x .below q k))))
+    rising-apart b h x (the-highest less same r) q k =
         let one = x .has-highest (omega arith) in
         like-one (record { place = one .place; earlier = one .earlier; starts = one .starts ∙ same; ends = one .ends ∙ r }) q k
 
     clear-apart :
-        (s : Seen) → (clauseAt w p ≡ NoClause → ⊥) → isClear s (startOf (clauseAt w p)) (quadwordsIn64 (behind (clauseAt w p))) ≡ true
+        (s : Seen) → isClear s (startOf (clauseAt w p)) (quadwordsIn64 (behind (clauseAt w p))) ≡ true
         → SeenBefore w e p s → names (upTo s (startOf (clauseAt w p)) (quadwordsIn64 (behind (clauseAt w p)))) (quadwords p) ≡ false
         → ApartFrom (clauseAt w) p
-    clear-apart (Asked r) n c x m = first-unnamed r x m
-    clear-apart (Span l b h) n c x m =
-        span-apart (l .0) (b .0) (h .0) x (sized-at w p .some n)
-        (clear-how l b h (startOf (clauseAt w p)) (behind (clauseAt w p)) (ap (isClear (Span l b h) (startOf (clauseAt w p))) (sym end-exact) ∙ c))
+    clear-apart (Asked r) c x m = first-unnamed r x m
+    clear-apart (Rising b h) c x m =
+        rising-apart (b .0) (h .0) x
+        (clear-how b h (startOf (clauseAt w p)) (behind (clauseAt w p)) (ap (isClear (Rising b h) (startOf (clauseAt w p))) (sym end-exact) ∙ c))
 
     -- a place with a clear range, or none, is not asked for
     clear-unnamed :
         (s : Seen) (start end : Quadwords) → SeenBefore w e p s → names (upTo s start end) (quadwords p) ≡ true → ApartFrom (clauseAt w) p → ⊥
     clear-unnamed (Asked r) start end x m a = first-named r x m a
-    clear-unnamed (Span l b h) start end x m a = by (isAtMost b start) m
-      where
-        by : (t : Bool) → names (cond t (Span (quadwords (min (l .0) (start .0))) end start) (Span (quadwords (min (l .0) (start .0))) b h)) (quadwords p) ≡ true → ⊥
-        by true m = impossible cc
-        by false m = impossible cc
+    clear-unnamed (Rising b h) start end x m a = impossible cc
 
     none-named : (s : Seen) → SeenBefore w e p s → clauseAt w p ≡ NoClause → names s (quadwords p) ≡ true → ⊥
-    none-named (Span l b h) x z n = impossible cc
+    none-named (Rising b h) x z n = impossible cc
     none-named (Asked r) x z n = first-named r x n (empty-apart z)
 
     pub unnamed-apart : names t (quadwords p) ≡ false → ApartFrom (clauseAt w) p
@@ -411,7 +357,7 @@ module _ (w : List ℕ) (e p : ℕ) where
       where
         by : (s t : Seen) → SeenBefore w e p s → SeenWith w e (clauseAt w p) s t → names t (quadwords p) ≡ false → ApartFrom (clauseAt w) p
         by s t h (opens-none z) n = empty-apart z
-        by s t h (clear some c g) n = clear-apart s some c h (ap (λ (x : Seen). names x (quadwords p)) (sym g) ∙ n)
+        by s t h (clear some c g) n = clear-apart s c h (ap (λ (x : Seen). names x (quadwords p)) (sym g) ∙ n)
         by s t h (turns {r} some c u) n = first-unnamed r u n
 
     pub named-not-apart : names t (quadwords p) ≡ true → ApartFrom (clauseAt w) p → ⊥

@@ -1,8 +1,8 @@
--- What only the code's contracts cite: what is known of the clauses opened so far. As long as each lies outside of those before it, or is the
--- highest once more, that is where they lie; from the first that does not, it is the first place that breaks the rule.
-use Prim.Native.Nat.{ℕ, suc, _+_, _-_, _^_, _≤_, _<_, min}
+-- What only the code's contracts cite: what is known of the clauses opened so far. As long as each lies behind those before it, or is the highest
+-- once more, that is where they end; from the first that does not, it is the first place that breaks the rule.
+use Prim.Native.Nat.{ℕ, suc, _+_, _≤_, _<_, min}
 use mathlib.Core.Path.{_≡_}
-use mathlib.Core.Bool.{Bool, true, false, cond, _&&_, _||_}
+use mathlib.Core.Bool.{Bool, true, false, _&&_, _||_}
 use mathlib.Core.List.{List}
 use lib.Dec.{eqb}
 use lib.ListN.{length, getD}
@@ -15,7 +15,7 @@ use Rattle.section.specs.Rules.{clauseAt}
 use Rattle.apart.specs.Apart.{startOf, lengthOf, behind, halfShared}
 use Rattle.apart.specs.declared.ranges.Range.{Range}
 use Rattle.apart.specs.declared.Seen.{Seen}
-use Rattle.apart.specs.declared.Seen.the-variants.{Span, Asked}
+use Rattle.apart.specs.declared.Seen.the-variants.{Rising, Asked}
 
 -- a clause's range as the code has it
 abbrev pub rangeOf : Clause → Range
@@ -58,21 +58,18 @@ pub record OneIs (opens : ℕ → Clause) (p start end : ℕ) : Type 0 where
   pub starts : startOf (opens place) .0 ≡ start
   pub ends : behind (opens place) .0 ≡ end
 
--- before the first clause; no clause starts at 2^32 - 1 or behind it and ends in a pack
+-- before the first clause
 abbrev pub noneSeen : Seen
-noneSeen = Span (quadwords (2 ^ 32 - 1)) (quadwords 0) (quadwords 0)
+noneSeen = Rising (quadwords 0) (quadwords 0)
 
--- a range is behind all before it, before all of them, or the highest of them; from when on the first place is known it does not matter
+-- a range is behind all before it, or the highest of them; from when on the first place is known it does not matter
 abbrev pub isClear : Seen → Quadwords → Quadwords → Bool
-isClear (Span lowest behind highest) start end =
-    isAtMost behind start || (isAtMost end lowest || (eqb (highest .0) (start .0) && eqb (behind .0) (end .0)))
+isClear (Rising behind highest) start end = isAtMost behind start || (eqb (highest .0) (start .0) && eqb (behind .0) (end .0))
 isClear (Asked r) start end = true
 
 -- with it
 abbrev pub upTo : Seen → Quadwords → Quadwords → Seen
-upTo (Span lowest behind highest) start end =
-    cond (isAtMost behind start) (Span (quadwords (min (lowest .0) (start .0))) end start)
-    (Span (quadwords (min (lowest .0) (start .0))) behind highest)
+upTo (Rising behind highest) start end = Rising end start
 upTo (Asked r) start end = Asked r
 
 -- with one clause more: none is opened; its range is clear; it is not, and the first place is asked for
@@ -85,18 +82,18 @@ pub data SeenWith (w : List ℕ) (e : ℕ) (k : Clause) (s : Seen) : Seen → Ty
       {r : Quadwords} → (k ≡ NoClause → ⊥) → isClear s (startOf k) (quadwordsIn64 (behind k)) ≡ false → FirstNotApart w e (r .0)
       → SeenWith w e k s (Asked r)
 
--- what that says of the places before p: all ranges lie between the lowest start and the quadword behind, and one is the highest
-pub record Spanned (opens : ℕ → Clause) (p lowest end highest : ℕ) : Type 0 where
-  pub between : (q : ℕ) → q < p → 0 < lengthOf (opens q) .0 → (lowest ≤ startOf (opens q) .0) × (behind (opens q) .0 ≤ end)
+-- what that says of the places before p: all ranges end there or before, and one is the highest
+pub record Risen (opens : ℕ → Clause) (p end highest : ℕ) : Type 0 where
+  pub below : (q : ℕ) → q < p → behind (opens q) .0 ≤ end
   pub has-highest : 0 < end → OneIs opens p highest end
 
 abbrev pub SeenBefore : List ℕ → ℕ → ℕ → Seen → Type 0
-SeenBefore w e p (Span lowest end highest) = Spanned (clauseAt w) p (lowest .0) (end .0) (highest .0)
+SeenBefore w e p (Rising end highest) = Risen (clauseAt w) p (end .0) (highest .0)
 SeenBefore w e p (Asked r) = FirstNotApart w e (r .0)
 
 -- the place that is known to break the rule is p
 abbrev pub names : Seen → Quadwords → Bool
-names (Span lowest behind highest) p = false
+names (Rising behind highest) p = false
 names (Asked r) p = eqb (r .0) (p .0)
 
 -- ---- marks: one to a quadword. 0: no clause lies there; n + 1: one of n quadwords starts there; 1: it goes on there

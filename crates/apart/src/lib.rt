@@ -1,9 +1,9 @@
 // Rule 22: a fetch clause starts at an even quadword, and two clauses are either the same range or disjoint (document 02, request 4).
 //
 // Clauses mostly come in the order of their openers. Then each starts at or behind the end of all before it, which is one comparison; and it is as
-// plain where one ends by the start of all before it, or is the highest of them once more. At the first that is none of these the pairs are looked
-// at again, with a mark to each quadword (`marks`), and the first whose clause is not apart from those before is known from then on. So most packs
-// have no marks, and in any other each quadword is marked once.
+// plain where one is the highest of them once more. At the first that is neither the pairs are looked at again, with a mark to each quadword
+// (`marks`), and the first whose clause is not apart from those before is known from then on. So most packs have no marks, and in any other each
+// quadword is marked once.
 mod marks;
 mod ranges;
 
@@ -13,24 +13,21 @@ ghost use mathlib.Core.Path.{_≡_};
 ghost use Rattle.apart.specs.Apart.{oddFetch};
 ghost use Rattle.apart.specs.Code.{SeenWith, noneSeen, isClear, upTo, names};
 
-// What is known of the clauses that are opened so far. As long as each lies outside of those before it, or is the highest once more: the lowest
-// start, the quadword behind them all, and the start of the highest. Then the first place of the section whose clause is not apart from those
-// before it.
+// What is known of the clauses that are opened so far. As long as each lies behind those before it, or is the highest once more: the quadword
+// behind them all, and where the highest starts. Then the first place of the section whose clause is not apart from those before it.
 pub enum Seen {
-    Span {
-        lowest: Quadwords,
+    Rising {
         behind: Quadwords,
         highest: Quadwords,
     },
     Asked(Quadwords),
 }
 
-// Before the first clause: none is lower, or ends later.
+// Before the first clause.
 pub fn none_seen() -> Seen
     ensures { λ r. ⌜ r ≡ noneSeen ⌝ }
 {
-    Seen::Span {
-        lowest: Quadwords(0xffff_ffff),
+    Seen::Rising {
         behind: Quadwords(0),
         highest: Quadwords(0),
     }
@@ -96,15 +93,8 @@ fn is_clear(seen: Seen, start: Quadwords, end: Quadwords) -> bool
     ensures { λ r. ⌜ r ≡ isClear seen start end ⌝ }
 {
     match seen {
-        Seen::Span {
-            lowest,
-            behind,
-            highest,
-        } => {
+        Seen::Rising { behind, highest } => {
             if units::is_at_most(behind, start) {
-                return true;
-            }
-            if units::is_at_most(end, lowest) {
                 return true;
             }
             if highest.0 != start.0 {
@@ -116,29 +106,18 @@ fn is_clear(seen: Seen, start: Quadwords, end: Quadwords) -> bool
     }
 }
 
-// With such a range more.
+// With such a range more: it is the highest.
 fn up_to(seen: Seen, start: Quadwords, end: Quadwords) -> Seen
     ensures { λ r. ⌜ r ≡ upTo seen start end ⌝ }
 {
     match seen {
-        Seen::Span {
-            lowest,
-            behind,
-            highest,
-        } => {
-            if units::is_at_most(behind, start) {
-                return Seen::Span {
-                    lowest: Quadwords(units::smaller(lowest.0, start.0)),
-                    behind: end,
-                    highest: start,
-                };
-            }
-            Seen::Span {
-                lowest: Quadwords(units::smaller(lowest.0, start.0)),
-                behind,
-                highest,
-            }
-        }
+        Seen::Rising {
+            behind: _,
+            highest: _,
+        } => Seen::Rising {
+            behind: end,
+            highest: start,
+        },
         Seen::Asked(place) => Seen::Asked(place),
     }
 }
@@ -147,12 +126,8 @@ fn up_to(seen: Seen, start: Quadwords, end: Quadwords) -> Seen
 pub fn names(seen: Seen, place: Quadwords) -> bool
     ensures { λ r. ⌜ r ≡ names seen place ⌝ }
 {
-    match seen {
-        Seen::Span {
-            lowest: _,
-            behind: _,
-            highest: _,
-        } => false,
-        Seen::Asked(first) => first.0 == place.0,
+    if let Seen::Asked(first) = seen {
+        return first.0 == place.0;
     }
+    false
 }

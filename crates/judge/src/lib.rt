@@ -25,8 +25,8 @@ ghost use Rattle.judge.specs.Code.{pairAt, InWords, Section, At, LayoutT
 mod pairs;
 mod stack;
 
-pub use pairs::limits_with;
 use pairs::Pair;
+pub use pairs::limits_with;
 use stack::Ahead;
 
 // The verdict on a pack by a card. Whatever the words and the card are, there is an answer; and where it is Accepted, every walk is safe.
@@ -126,7 +126,17 @@ fn first_pass(
         let pair = pairs::pair_at(words, p);
         let clause = pair.clause;
         seen = apart::seen_with(words, e, seen, clause);
-        let ahead = first_at(card, words, e, p, pair, seen, s, &mut tops[..], &mut marks[..]);
+        let ahead = first_at(
+            card,
+            words,
+            e,
+            p,
+            pair,
+            seen,
+            s,
+            &mut tops[..],
+            &mut marks[..],
+        );
         match ahead {
             Ahead::Broken { rule, place, slot } => {
                 return Verdict::Refused { rule, place, slot };

@@ -8,6 +8,6 @@ names-spec =
     tie.close
     (tie.spec
     (λ c. search needs)
+    (λ c. rw (c .before .before .before .seen .given .1))
     (λ c. search needs)
-    (λ c. search needs)
-    (λ c. rw (c .before .before .before .seen .given .1)))
+    (λ c. search needs))
