@@ -1,25 +1,23 @@
 -- Rule 22 of two clauses, of a place against all before it, and what is known as the places go by. Assumes nothing.
-use Prim.Native.Nat.{ℕ, zero, suc, _+_, _-_, _%_, _^_, _≤_, _<_, min}
+use Prim.Native.Nat.{ℕ, zero, suc, _-_, _^_, _≤_, _<_, min}
 use mathlib.Core.Path.{_≡_, refl, sym, ap, _∙_, subst}
-use mathlib.Core.Bool.{Bool, true, false, cond, not, _&&_, _||_}
+use mathlib.Core.Bool.{Bool, true, false, not, _&&_, _||_}
 use mathlib.Core.List.{List, [], _∷_}
 use mathlib.Core.Logic.{_⊎_, inl, inr, ⊎-elim}
 use native.Mathlib.Nat.{le-of-suc-le-suc, eq-or-lt-of-le, le-refl, le-step}
 use native.Mathlib.Omega.{arith}
 use lib.Dec.{eqb, ltb}
-use lib.ListN.{length}
 use borrow.Author.Tests.{eqb-true, eqb-false, eq-eqb, ne-eqb, ltb-true, ltb-false, leb-true, leb-false, le-leb}
 use Rattle.laws.proofs.OfCases.{impossible}
-use Rattle.laws.proofs.OfTests.{both, both-hold, neither, by-test}
+use Rattle.laws.proofs.OfTests.{both, by-test}
 use Rattle.units.specs.declared.Quadwords.{Quadwords}
 use Rattle.units.specs.declared.Slots.{Slots}
 use Rattle.units.specs.Units.{quadwords, slots, lowAt, highAt, slotsLength, fetchesLength, rangeEnd, isAtMost}
 use Rattle.units.specs.Code.{quadwordsIn64}
 use Rattle.checks.specs.declared.Place.the-variants.{Quadword}
-use Rattle.checks.specs.declared.Verdict.{Verdict}
 use Rattle.checks.specs.declared.Verdict.the-variants.{Accepted, Refused}
 use Rattle.checks.specs.Checks.{Check, ofPair, firstBroken, below}
-use Rattle.checks.proofs.OfChecks.{hit, miss, first-clean, rest-clean, joined-clean, joined-refused, below-next, below-each}
+use Rattle.checks.proofs.OfChecks.{first-clean, joined-clean, joined-refused, below-next, below-each}
 use Rattle.opcodes.specs.declared.cf.FetchKind.{FetchKind}
 use Rattle.opcodes.specs.declared.cf.Control.{Control}
 use Rattle.opcodes.specs.declared.cf.Control.the-variants.{NotTaken, Nop, Fetch, Branch, Export, Alu}
@@ -30,8 +28,12 @@ use Rattle.section.specs.Rules.{clauseOf, clauseAt}
 use Rattle.apart.specs.declared.ranges.Range.{Range}
 use Rattle.apart.specs.declared.Seen.{Seen}
 use Rattle.apart.specs.declared.Seen.the-variants.{Rising, Asked}
-use Rattle.apart.specs.Apart.{startOf, lengthOf, behind, sameRange, disjoint, halfShared, oddFetch, sharedChecks, layoutChecks, SameOrDisjoint}
-use Rattle.apart.specs.Code.{rangeOf, ApartFrom, Fit, FirstUnfit, FirstNotApart, quadwordsIn, markedIn, OneIs, SeenWith, opens-none, clear, turns, Risen, SeenBefore, noneSeen, isClear, upTo, names}
+use Rattle.apart.specs.Apart.{startOf, lengthOf, behind, sameRange, disjoint, halfShared, sharedChecks, SameOrDisjoint}
+use Rattle.apart.specs.Code.{rangeOf, ApartFrom, Fit, FirstNotApart, quadwordsIn, markedIn, OneIs, SeenWith, opens-none, clear, turns, Risen, SeenBefore, noneSeen, isClear, upTo, names}
+
+-- what holds of each place below p, and of p
+pub last-or : (P : ℕ → Type 0) (p q : ℕ) → q < suc p → (q < p → P q) → P p → P q
+last-or P p q l f h = ⊎-elim (λ e. subst P (sym e) h) f (eq-or-lt-of-le (le-of-suc-le-suc l))
 
 -- ---- two clauses
 
@@ -238,9 +240,6 @@ clear-how b h s c e =
     the-highest (leb-false (b .0) (s .0) x) (eqb-true (h .0) (s .0) (both-are .0)) (eqb-true (b .0) (c .0) (both-are .1)))
 
 module _ (w : List ℕ) (e p : ℕ) where
-  last-or : (P : ℕ → Type 0) (q : ℕ) → q < suc p → (q < p → P q) → P p → P q
-  last-or P q l f h = ⊎-elim (λ x. subst P (sym x) h) f (eq-or-lt-of-le (le-of-suc-le-suc l))
-
   later : {s c : ℕ} → OneIs (clauseAt w) p s c → OneIs (clauseAt w) (suc p) s c
   later o = record { place = o .place; earlier = le-step (o .earlier); starts = o .starts; ends = o .ends }
 
@@ -248,7 +247,7 @@ module _ (w : List ℕ) (e p : ℕ) where
   none-here (Rising b h) z x =
       let n : behind (clauseAt w p) .0 ≡ 0 = ap (λ (y : Clause). behind y .0) z in
       record {
-        below = λ q k. last-or (λ q. behind (clauseAt w q) .0 ≤ b .0) q k (x .below q) (omega arith);
+        below = λ q k. last-or (λ q. behind (clauseAt w q) .0 ≤ b .0) p q k (x .below q) (omega arith);
         has-highest = λ y. later (x .has-highest y);
       }
   none-here (Asked r) z x = x
@@ -260,7 +259,7 @@ module _ (w : List ℕ) (e p : ℕ) where
   risen b h d x c v =
       let most = at-most c in
       record {
-        below = λ q k. last-or (λ q. behind (clauseAt w q) .0 ≤ d) q k (λ i. omega (arith, x .below q i, most)) (omega arith);
+        below = λ q k. last-or (λ q. behind (clauseAt w q) .0 ≤ d) p q k (λ i. omega (arith, x .below q i, most)) (omega arith);
         has-highest = λ n. record { place = p; earlier = le-refl (suc p); starts = refl; ends = sym v };
       }
     where

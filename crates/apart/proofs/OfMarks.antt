@@ -5,7 +5,7 @@ use mathlib.Core.Path.{_≡_, refl, sym, ap, _∙_, subst}
 use mathlib.Core.Bool.{Bool, true, false, true≢false}
 use mathlib.Core.List.{List}
 use mathlib.Core.Logic.{⊎-elim}
-use native.Mathlib.Nat.{le-of-suc-le-suc, eq-or-lt-of-le, le-refl}
+use native.Mathlib.Nat.{eq-or-lt-of-le, le-refl}
 use native.Mathlib.Omega.{arith}
 use lib.Dec.{ltb}
 use lib.ListN.{length, getD, set, replicate, length-set, length-replicate, getD-replicate, List·getD-eq-default}
@@ -20,16 +20,12 @@ use Rattle.section.specs.Rules.{clauseAt}
 use Rattle.apart.specs.declared.ranges.Range.{Range}
 use Rattle.apart.specs.Apart.{startOf, lengthOf, behind, halfShared}
 use Rattle.apart.specs.Code.{rangeOf, ApartFrom, Fit, FirstUnfit, FirstNotApart, quadwordsIn, markedIn, Unmarked, Covered, Marked, Filled, Claimed, again, claims, clashes, Found, empty, outside, within}
-use Rattle.apart.proofs.OfApart.{InPart, half-in-part, in-part-half, Sized}
+use Rattle.apart.proofs.OfApart.{last-or, InPart, half-in-part, in-part-half, Sized}
 
 -- below, equal or above
 order : {P : Type 0} (a b : ℕ) → (a < b → P) → (a ≡ b → P) → (b < a → P) → P
 order a b f g h =
     by-test (ltb a b) (λ e. f (ltb-true a b e)) (λ e. ⊎-elim (λ q. g (sym q)) h (eq-or-lt-of-le (ltb-false a b e)))
-
--- what holds of each place below p, and of p
-last-or : (P : ℕ → Type 0) (p q : ℕ) → q < suc p → (q < p → P q) → P p → P q
-last-or P p q l f h = ⊎-elim (λ e. subst P (sym e) h) f (eq-or-lt-of-le (le-of-suc-le-suc l))
 
 -- ---- the marks of the places before p, and p's clause
 

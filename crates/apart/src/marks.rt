@@ -3,10 +3,10 @@ use crate::ranges;
 use ranges::Range;
 use units::Quadwords;
 use units::Words;
-ghost use Prim.Native.Nat.{_+_, _≤_, _<_, min};
+ghost use Prim.Native.Nat.{_+_, _≤_, _<_};
 ghost use lib.ListN.{length};
 ghost use Rattle.section.specs.Rules.{clauseAt};
-ghost use Rattle.apart.specs.Code.{FirstUnfit, FirstNotApart, Claimed, Found, Unmarked, quadwordsIn};
+ghost use Rattle.apart.specs.Code.{FirstUnfit, FirstNotApart, Claimed, Found, Unmarked};
 
 // No pack has more quadwords.
 const MOST_QUADWORDS: usize = 8192;

@@ -1,7 +1,6 @@
 // The quadwords of a clause.
 use section::Clause;
 use units::Quadwords;
-use units::Slots;
 ghost use mathlib.Core.Path.{_≡_};
 ghost use Prim.Native.Nat.{_<_};
 ghost use Rattle.section.specs.Rules.{clauseAt};

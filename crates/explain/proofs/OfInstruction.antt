@@ -25,7 +25,8 @@ use Rattle.section.specs.Rules.{clauseOf, clauseAt}
 use Rattle.explain.specs.declared.instruction.Asked.the-variants.{At}
 use Rattle.judge.specs.Judge.{limitsWith, limitsIn}
 use Rattle.explain.specs.Explain.{namedIn, faultAt}
-use Rattle.explain.specs.Code.{faultAsked, startOf, faultBy}
+use Rattle.apart.specs.Apart.{startOf}
+use Rattle.explain.specs.Code.{faultAsked, faultBy}
 
 -- word n, by its number cut to 64 bits
 abbrev ReadAt : List ℕ → Words → ℕ → Type 0

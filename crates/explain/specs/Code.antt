@@ -2,8 +2,6 @@
 use Prim.Native.Nat.{ℕ}
 use mathlib.Core.Bool.{cond}
 use mathlib.Core.List.{List}
-use Rattle.units.specs.declared.Quadwords.{Quadwords}
-use Rattle.units.specs.Units.{quadwords}
 use Rattle.formats.specs.Fields.{_of_, «FETCH_INST»}
 use Rattle.checks.specs.declared.AtFault.{AtFault}
 use Rattle.checks.specs.declared.AtFault.the-variants.{NoNumber}
@@ -31,12 +29,6 @@ askedBy (Refused rule (Quadword q) slot) = cond (asksNames rule) (At q slot) Not
 abbrev pub faultAsked : Card → List ℕ → Asked → AtFault
 faultAsked card w Nothing = NoNumber
 faultAsked card w (At opener slot) = faultAt card w (opener .0) slot
-
--- where a clause starts
-abbrev pub startOf : Clause → Quadwords
-startOf NoClause = quadwords 0
-startOf (AluClause start n push mode0 mode1) = start
-startOf (FetchClause start n kind) = start
 
 -- the first fault of an instruction or a fetch of a clause, by its first two words
 abbrev pub faultBy : Card → Clause → ℕ → ℕ → AtFault

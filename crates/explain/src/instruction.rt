@@ -14,7 +14,8 @@ ghost use Rattle.units.specs.Code.{capped, quadwordsIn64};
 ghost use Rattle.section.specs.Control.{controlOf};
 ghost use Rattle.section.specs.Rules.{clauseOf};
 ghost use Rattle.input.specs.Words.{wordsIn};
-ghost use Rattle.explain.specs.Code.{faultAsked, startOf, faultBy};
+ghost use Rattle.apart.specs.Apart.{startOf};
+ghost use Rattle.explain.specs.Code.{faultAsked, faultBy};
 
 // The instruction that a verdict is about, if it is about what one names.
 pub enum Asked {

@@ -1,7 +1,7 @@
 // The judge: both passes over a pack, and its verdict.
 //
 // Document 01, "Numbers and what they mean": the checks in their order, of which the first broken one is the answer. Nothing is copied;
-// the stack before each place of the section is kept as two numbers (crate `walk`).
+// the stack before each place of the section is kept as two numbers (crate `walk`), and of the clauses where they end (crate `apart`).
 use apart::Seen;
 use card::Card;
 use card::CardRead;

@@ -1,9 +1,6 @@
 -- `apart::marks::has_clash` meets its contract. The loop's invariant: the quadwords passed were free and are marked. Assumes nothing.
 use Prim.Native.Nat.{_+_, _-_}
-use mathlib.Core.Path.{_≡_}
 use borrow.Author.Needs.{needs}
-use native.Mathlib.Omega.{arith}
-use lib.ListN.{length-set}
 use Rattle.apart.specs.Code.{again}
 use Rattle.apart.proofs.OfMarks.{Filling, filling-none, filling-next, filling-all, filling-clash}
 use Rattle.apart.proofs.marks.has_clash.Statement.{statement}

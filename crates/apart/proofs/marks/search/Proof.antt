@@ -1,6 +1,5 @@
 -- `apart::marks::search` meets its contract. The loop's invariant: all places passed are fit, and the marks are those of their clauses. Assumes
 -- nothing.
-use borrow.Author.Needs.{needs}
 use borrow.Author.Tests.{ltb-true, ltb-false}
 use mathlib.Core.Path.{_≡_, refl, sym, _∙_}
 use Prim.Native.Nat.{_-_}

@@ -1,5 +1,4 @@
 -- `judge::pairs::layout_verdict` meets its contract, test by test. Assumes nothing.
-use mathlib.Core.Path.{sym, _∙_}
 use Rattle.judge.proofs.OfPairs.{odd-refused, named-refused, laid-clean}
 use Rattle.judge.proofs.pairs.layout_verdict.Statement.{statement}
 use Rattle.judge.proofs.pairs.layout_verdict.Tie as tie
