@@ -23,7 +23,7 @@ pub(crate) fn first_not_apart(words: &[u32], end: Quadwords) -> Quadwords
         let mut marks = [0u8; 512];
         return search(words, pairs, marked, &mut marks);
     }
-    let mut marks = [0u8; 8192];
+    let mut marks = [0u8; MOST_QUADWORDS];
     search(words, pairs, marked, &mut marks)
 }
 
