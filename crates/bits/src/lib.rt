@@ -2,6 +2,8 @@
 //
 // Every function is defined at every offset and width; its definition says what lies behind bit 31. At an offset and a width that are
 // literals a call compiles to the shift and the mask alone (docs/MACHINE-CODE.md).
+#![tactic(auto)]
+
 ghost use Rattle.std.specs.Prelude.{◌≡◌, ◌^◌, ltb};
 ghost use Rattle.bits.specs.Fields.{field_of, width_of, value_in};
 ghost use Rattle.bits.specs.Tables.{place_of};

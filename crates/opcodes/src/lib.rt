@@ -2,6 +2,8 @@
 //
 // specs/ lists every number with its mnemonic. Here those of ALU instructions are looked up in a table, those of control flow are decided by
 // matches, and those of texture fetches by a bit each.
+#![tactic(auto)]
+
 pub mod alu;
 pub mod cf;
 mod table;

@@ -5,6 +5,8 @@
 //
 // A count that 64 bits do not hold is answered as the largest number that they do (`quadwords_in_64`, ..): it lies behind every buffer,
 // as the true count would. No ADDR of 32 bits comes near that (proofs/OfUnits.antt).
+#![tactic(auto)]
+
 ghost use Rattle.std.specs.Prelude.{◌≡◌, ◌+◌, min};
 ghost use Rattle.units.specs.Units as count;
 ghost use Rattle.units.specs.Code.{capped, quadwords_in_64, slots_in_64, words_in_64};
