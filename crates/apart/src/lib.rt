@@ -16,7 +16,7 @@ use units::Quadwords;
 
 // What is known of the clauses that are opened so far. As long as each lies behind those before it, or is the highest once more: the quadword
 // behind them all, and where the highest starts. Then the first place of the section whose clause is not apart from those before it.
-#[derive(Drop)]
+#[derive(Clone, Copy)]
 pub enum Seen {
     Rising {
         behind: Quadwords,

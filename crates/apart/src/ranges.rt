@@ -6,7 +6,7 @@ ghost use Rattle.apart.specs.Code.{range_of, quadwords_in};
 use section::Clause;
 use units::Quadwords;
 
-#[derive(Drop)]
+#[derive(Clone, Copy)]
 pub struct Range {
     pub start: Quadwords,
     pub size: Quadwords,

@@ -10,7 +10,7 @@ ghost use Rattle.bits.specs.Tables.{place_of};
 ghost use Rattle.bits.specs.Code.{lifted_of, with_field};
 
 // A field of a word, from its highest bit to its lowest, as the papers write 28:26.
-#[derive(Drop)]
+#[derive(Clone, Copy)]
 pub struct Bits(pub u32, pub u32);
 
 // How many bits a field has; a word has 32.

@@ -4,6 +4,8 @@
 // limits.rt. A line more is a row more in each.
 //
 // The keys and numbers of other texts NAME=number are read by the same functions: `begins_with` and `read_number`.
+#![tactic(auto)]
+
 ghost use Rattle.std.specs.Prelude.{◌≡◌};
 ghost use Rattle.card.specs.Card.{card_of};
 ghost use Rattle.card.specs.Made.{test_of};
@@ -18,7 +20,7 @@ pub use text::{begins_with, read_number};
 use units::Quadwords;
 
 // The paper's kind: ps, vs, gs.
-#[derive(Drop)]
+#[derive(Clone, Copy)]
 pub enum Kind {
     Pixel,
     Vertex,
@@ -26,14 +28,14 @@ pub enum Kind {
 }
 
 // The paper's build. Only a production pack is released.
-#[derive(Drop)]
+#[derive(Clone, Copy)]
 pub enum Build {
     Production,
     Debug,
 }
 
 // The paper's card, a field for each line. Any figures can be put into one: `check_card` tells whether they are in range.
-#[derive(Drop)]
+#[derive(Clone, Copy)]
 pub struct Card {
     pub kind: Kind,
     pub build: Build,
@@ -51,21 +53,21 @@ pub struct Card {
 
 // A card and the bytes that it takes, so that the pack starts there; or the number of the first line, counted from 1, that is
 // missing, misspelt or out of range.
-#[derive(Drop)]
+#[derive(Clone, Copy)]
 pub enum CardRead {
     Whole(Card, usize),
     BadLine(usize),
 }
 
 // The number of the first line that is out of range, if one is.
-#[derive(Drop)]
+#[derive(Clone, Copy)]
 pub enum CardTest {
     InRange,
     BadLine(usize),
 }
 
 // A number of 32 bits, or that a text is none.
-#[derive(Drop)]
+#[derive(Clone, Copy)]
 pub enum Number {
     Is(u32),
     Wrong,

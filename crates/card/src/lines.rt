@@ -13,13 +13,13 @@ use crate::text::{Figure, Place};
 use crate::{Build, Kind, limits, text};
 
 // What a line says, and where the next one starts; or that the line is not exactly right. `Figure` is the same for a number.
-#[derive(Drop)]
+#[derive(Clone, Copy)]
 pub enum KindRead {
     Is(Kind, usize),
     Wrong,
 }
 
-#[derive(Drop)]
+#[derive(Clone, Copy)]
 pub enum BuildRead {
     Is(Build, usize),
     Wrong,

@@ -22,14 +22,14 @@ const OF_32_BITS: Limits = Limits {
 };
 
 // The place behind a key or a word, or that it does not stand where it is looked for.
-#[derive(Drop)]
+#[derive(Clone, Copy)]
 pub enum Place {
     At(usize),
     Wrong,
 }
 
 // A number, and where what stands behind it starts: the next line, or the line feed before it; or that no such number stands there.
-#[derive(Drop)]
+#[derive(Clone, Copy)]
 pub enum Figure {
     Is(u32, usize),
     Wrong,

@@ -177,6 +177,8 @@ eased_accepted (c ∷ cs) (d ∷ ds) (and_then e es) h =
     by_test_lem d.broken
     (λ t. absurd (true≢false (sym (e.no_harder t) ∙ first_clean c cs h)))
     (λ t. miss d ds t ∙ eased_accepted cs ds es (rest_clean c cs h))
+eased_accepted [] (d ∷ ds) x4 h = elim x4 [ ]
+eased_accepted (c ∷ cs) [] x4 h = elim x4 [ ]
 
 pub eased_same : (cs : List Check) → EachEases cs cs
 eased_same [] = none_left
@@ -186,6 +188,8 @@ eased_same (c ∷ cs) =
 pub eased_joined : (a b cs ds : List Check) → EachEases a b → EachEases cs ds → EachEases (a ++ cs) (b ++ ds)
 eased_joined [] [] cs ds none_left k = k
 eased_joined (x ∷ a) (y ∷ b) cs ds (and_then e es) k = and_then e (eased_joined a b cs ds es k)
+eased_joined [] (y ∷ b) cs ds x4 k = elim x4 [ ]
+eased_joined (x ∷ a) [] cs ds x5 k = elim x5 [ ]
 
 pub eased_below : (f g : ℕ → List Check) (n : ℕ) → ((p : ℕ) → p < n → EachEases (f p) (g p)) → EachEases (below f n) (below g n)
 unfolding below

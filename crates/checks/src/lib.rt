@@ -1,5 +1,7 @@
 // The verdict: what the judge answers. A rule goes by its number in document 01's table, "Numbers and what they mean". And an explanation,
 // which is a verdict and what is to be said of it.
+#![tactic(auto)]
+
 ghost use Rattle.std.specs.Prelude.{◌≡◌};
 ghost use Rattle.checks.specs.Verdict.{is_accepted, line_or_quadword, verdict_number, verdict_place, verdict_slot};
 
@@ -7,7 +9,7 @@ use units::{Quadwords, Slots};
 
 // Where a refusal points, as the table's last column has it: the card or the pack as a whole, a line of the card counted from 1,
 // or a quadword of the control-flow section.
-#[derive(Drop)]
+#[derive(Clone, Copy)]
 pub enum Place {
     Whole,
     Line(usize),
@@ -15,7 +17,7 @@ pub enum Place {
 }
 
 // Accepted, or the number of the rule that is broken, and where.
-#[derive(Drop)]
+#[derive(Clone, Copy)]
 pub enum Verdict {
     Accepted,
     Refused { rule: u8, place: Place, slot: Slots },
@@ -23,13 +25,13 @@ pub enum Verdict {
 
 // The first number in an instruction that is not granted, and the first of its sort that is not: registers, or constants of one of the sets.
 // Only rules 9 and 15 have them.
-#[derive(Drop)]
+#[derive(Clone, Copy)]
 pub enum AtFault {
     NoNumber,
     Number { found: usize, limit: usize },
 }
 
-#[derive(Drop)]
+#[derive(Clone, Copy)]
 pub struct Explanation {
     pub verdict: Verdict,
     pub fault: AtFault,

@@ -20,14 +20,14 @@ use units::{Quadwords, Slots, Words};
 mod screen;
 
 // What a group comes to: the slots that it takes and the setters in it; or what it breaks, and how many slots behind its first.
-#[derive(Drop)]
+#[derive(Clone, Copy)]
 enum Step {
     Passed(Slots, Count),
     Broken(u8, Slots),
 }
 
 // A group as it was read: how many instructions it has, 0 where none of five or of those left in the clause has LAST set.
-#[derive(Drop)]
+#[derive(Clone, Copy)]
 struct Group {
     pub size: Slots,
     pub seen: Seen,

@@ -19,7 +19,7 @@ use groups::alu_units;
 use units::{Quadwords, Slots};
 
 // What is kept of the group that is being read.
-#[derive(Drop)]
+#[derive(Clone, Copy)]
 pub(crate) struct Tally {
     // The units taken, as bits.
     pub taken: u32,

@@ -37,4 +37,4 @@ changed_start older newer = words (common_beginning older newer)
 -- where a word of a slice lies: a block of memory and an offset in it, at four bytes to a word. The changed part is the newer's own
 -- memory from its start on, so that an empty part has its place too
 abbrev pub word_place : Bor (List ℕ) → Words → ℕ × ℕ
-word_place slice n = (slice.ptr.0, slice.ptr.1 + 4 * n.0)
+word_place slice n = (slice.ref_ptr.0, slice.ref_ptr.1 + 4 * n.0)

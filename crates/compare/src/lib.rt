@@ -3,6 +3,8 @@
 // Document 01: "Given an older and a newer slice of words, any lengths, the answer is a part of the newer: after the longest common
 // beginning, before the longest common ending of what then remains in both." The ending is looked for only behind the beginning,
 // so that no word counts in both.
+#![tactic(auto)]
+
 ghost use Rattle.std.specs.Prelude.{◌≡◌};
 ghost use Rattle.compare.specs.Changed.{common_beginning, common_ending, changed_words, changed_start, word_place};
 ghost use Rattle.compare.specs.Laws.{CommonBeginning, CommonEnding};

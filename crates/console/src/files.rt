@@ -7,7 +7,7 @@ use libc::{STDERR_FILENO, STDIN_FILENO};
 use units::smaller;
 
 // The program that reads, as its messages name it.
-#[derive(Drop)]
+#[derive(Clone, Copy)]
 pub enum Tool {
     Judge,
     Explain,
@@ -15,7 +15,7 @@ pub enum Tool {
 }
 
 // How many bytes of a file stand at the start of a room, or that it could not be read.
-#[derive(Drop)]
+#[derive(Clone, Copy)]
 pub enum FileRead {
     Failed,
     Bytes(usize),

@@ -15,7 +15,7 @@ use section::Clause;
 use units::{Quadwords, Slots, Words};
 
 // The instruction that a verdict is about, if it is about what one names.
-#[derive(Drop)]
+#[derive(Clone, Copy)]
 pub enum Asked {
     Nothing,
     At { opener: Quadwords, slot: Slots },

@@ -20,7 +20,7 @@ use units::Words;
 use words::FetchWords;
 
 // The three forms of a fetch.
-#[derive(Drop)]
+#[derive(Clone, Copy)]
 pub enum Fetch {
     Tex(TexWord0, TexWord1, TexWord2),
     // A vertex fetch that names its destination register.
@@ -30,7 +30,7 @@ pub enum Fetch {
 }
 
 // The clause that a fetch stands in, by its opener. VTX and VTX_TC have the same fetches.
-#[derive(Drop)]
+#[derive(Clone, Copy)]
 pub enum Clause {
     Tex,
     Vtx,
@@ -38,7 +38,7 @@ pub enum Clause {
 }
 
 // What the decoder answers.
-#[derive(Drop)]
+#[derive(Clone, Copy)]
 pub enum FetchDecoded {
     // The four words aren't wholly in the words.
     Outside,
@@ -49,7 +49,7 @@ pub enum FetchDecoded {
 
 // What stands at a start: a fetch by its form, with its first three words as they are. Who needs the fields of one form only reads them from
 // these, and a record that could be of any form is never made.
-#[derive(Drop)]
+#[derive(Clone, Copy)]
 pub enum Found {
     Outside,
     NotTaken,

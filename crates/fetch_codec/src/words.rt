@@ -9,7 +9,7 @@ use formats::vtx::{VtxWord0, VtxWord1Gpr, VtxWord1Sem, VtxWord2};
 use opcodes::cf::FetchKind;
 
 // The first three; the fourth is 0.
-#[derive(Drop)]
+#[derive(Clone, Copy)]
 pub struct FetchWords {
     // The number is one of the form, and each field within its width.
     pub is_record: bool,

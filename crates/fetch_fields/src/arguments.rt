@@ -2,14 +2,14 @@
 use card::Number;
 use fetch_codec::Clause;
 
-#[derive(Drop)]
+#[derive(Clone, Copy)]
 pub enum Kind {
     Unknown,
     Is(Clause),
 }
 
 // How many bytes of a room the settings are, or that they don't fit.
-#[derive(Drop)]
+#[derive(Clone, Copy)]
 pub enum Settings {
     TooLong,
     Are(usize),

@@ -15,7 +15,7 @@ use units::Words;
 pub const LONGEST: usize = 65536;
 
 // What is shown of a pack.
-#[derive(Drop)]
+#[derive(Clone, Copy)]
 pub enum PackShown {
     TooLong,
     // The pack's length is no multiple of a quadword's.
@@ -24,7 +24,7 @@ pub enum PackShown {
 }
 
 // What became of an edit.
-#[derive(Drop)]
+#[derive(Clone, Copy)]
 pub enum PackEdit {
     TooLong,
     NotWhole,

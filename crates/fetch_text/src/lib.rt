@@ -15,7 +15,7 @@ use rows::{RowEdit, RowRead};
 use units::Words;
 
 // What is shown of the words at a start.
-#[derive(Drop)]
+#[derive(Clone, Copy)]
 pub enum Shown {
     // The four words aren't wholly in the words.
     Outside,
@@ -25,7 +25,7 @@ pub enum Shown {
 }
 
 // What is wrong with a setting.
-#[derive(Drop)]
+#[derive(Clone, Copy)]
 pub enum Fault {
     // The form has no such field.
     NoField,
@@ -38,7 +38,7 @@ pub enum Fault {
 }
 
 // What became of an edit.
-#[derive(Drop)]
+#[derive(Clone, Copy)]
 pub enum Edit {
     Outside,
     NotTaken,

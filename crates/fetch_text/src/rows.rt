@@ -15,7 +15,7 @@ use report::Written;
 use settings::Setting;
 use units::Words;
 
-#[derive(Drop)]
+#[derive(Clone, Copy)]
 pub enum RowRead {
     Outside,
     NotTaken,
@@ -23,14 +23,14 @@ pub enum RowRead {
 }
 
 // Whether one setting was put into a row.
-#[derive(Drop)]
+#[derive(Clone, Copy)]
 pub enum RowSet {
     Wrong(Fault),
     Done,
 }
 
 // Whether all were; else how many bytes stand before the first that is wrong.
-#[derive(Drop)]
+#[derive(Clone, Copy)]
 pub enum RowEdit {
     Wrong(usize, Fault),
     Done,

@@ -13,7 +13,7 @@ use opcodes::cf::FetchKind;
 use units::{Quadwords, Slots, Words};
 
 // What one fetch breaks.
-#[derive(Drop)]
+#[derive(Clone, Copy)]
 enum Fault {
     Clean,
     Broken(u8),

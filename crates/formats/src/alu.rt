@@ -7,7 +7,7 @@ use crate::fields;
 use bits::{fits, put, read};
 
 // ALU_WORD0.
-#[derive(Drop)]
+#[derive(Clone, Copy)]
 pub struct AluWord0 {
     pub src0_sel: u32,
     pub src0_rel: u32,
@@ -75,7 +75,7 @@ pub fn word0_fits(r: AluWord0) -> bool
 }
 
 // ALU_WORD1_OP2.
-#[derive(Drop)]
+#[derive(Clone, Copy)]
 pub struct AluWord1Op2 {
     pub src0_abs: u32,
     pub src1_abs: u32,
@@ -148,7 +148,7 @@ pub fn op2_fits(r: AluWord1Op2) -> bool
 }
 
 // ALU_WORD1_OP3.
-#[derive(Drop)]
+#[derive(Clone, Copy)]
 pub struct AluWord1Op3 {
     pub src2_sel: u32,
     pub src2_rel: u32,

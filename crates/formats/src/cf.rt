@@ -8,7 +8,7 @@ use bits::{fits, put, read};
 use units::{Quadwords, Slots};
 
 // CF_WORD0.
-#[derive(Drop)]
+#[derive(Clone, Copy)]
 pub struct CfWord0 {
     pub addr: Quadwords,
 }
@@ -36,7 +36,7 @@ pub fn word0_fits(r: CfWord0) -> bool
 }
 
 // CF_WORD1.
-#[derive(Drop)]
+#[derive(Clone, Copy)]
 pub struct CfWord1 {
     pub pop_count: u32,
     pub cf_const: u32,

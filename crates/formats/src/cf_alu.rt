@@ -8,7 +8,7 @@ use bits::{fits, put, read};
 use units::{Quadwords, Slots};
 
 // CF_ALU_WORD0.
-#[derive(Drop)]
+#[derive(Clone, Copy)]
 pub struct CfAluWord0 {
     pub addr: Quadwords,
     pub kcache_bank0: u32,
@@ -48,7 +48,7 @@ pub fn word0_fits(r: CfAluWord0) -> bool
 }
 
 // CF_ALU_WORD1.
-#[derive(Drop)]
+#[derive(Clone, Copy)]
 pub struct CfAluWord1 {
     pub kcache_mode1: u32,
     pub kcache_addr0: u32,

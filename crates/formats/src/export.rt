@@ -7,7 +7,7 @@ use crate::fields;
 use bits::{fits, put, read};
 
 // CF_ALLOC_EXPORT_WORD0.
-#[derive(Drop)]
+#[derive(Clone, Copy)]
 pub struct CfAllocExportWord0 {
     pub array_base: u32,
     // TYPE
@@ -56,7 +56,7 @@ pub fn word0_fits(r: CfAllocExportWord0) -> bool
 }
 
 // CF_ALLOC_EXPORT_WORD1_SWIZ.
-#[derive(Drop)]
+#[derive(Clone, Copy)]
 pub struct CfAllocExportWord1Swiz {
     pub sel_x: u32,
     pub sel_y: u32,

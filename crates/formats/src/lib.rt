@@ -1,5 +1,7 @@
 // The word formats of the guide: every field by AMD's name (fields.rt), and for each word a record of its fields, with a reader, a
 // writer and a test of widths.
+#![tactic(auto)]
+
 pub mod alu;
 pub mod cf;
 pub mod cf_alu;

@@ -7,7 +7,7 @@ use crate::fields;
 use bits::{fits, put, read};
 
 // TEX_WORD0.
-#[derive(Drop)]
+#[derive(Clone, Copy)]
 pub struct TexWord0 {
     pub tex_inst: u32,
     pub bc_frac_mode: u32,
@@ -69,7 +69,7 @@ pub fn word0_fits(r: TexWord0) -> bool
 }
 
 // TEX_WORD1.
-#[derive(Drop)]
+#[derive(Clone, Copy)]
 pub struct TexWord1 {
     pub dst_gpr: u32,
     pub dst_rel: u32,
@@ -142,7 +142,7 @@ pub fn word1_fits(r: TexWord1) -> bool
 }
 
 // TEX_WORD2.
-#[derive(Drop)]
+#[derive(Clone, Copy)]
 pub struct TexWord2 {
     pub offset_x: u32,
     pub offset_y: u32,

@@ -7,7 +7,7 @@ use crate::fields;
 use bits::{fits, put, read};
 
 // VTX_WORD0.
-#[derive(Drop)]
+#[derive(Clone, Copy)]
 pub struct VtxWord0 {
     pub vtx_inst: u32,
     pub fetch_type: u32,
@@ -63,7 +63,7 @@ pub fn word0_fits(r: VtxWord0) -> bool
 }
 
 // VTX_WORD1_GPR.
-#[derive(Drop)]
+#[derive(Clone, Copy)]
 pub struct VtxWord1Gpr {
     pub dst_gpr: u32,
     pub dst_rel: u32,
@@ -136,7 +136,7 @@ pub fn gpr_fits(r: VtxWord1Gpr) -> bool
 }
 
 // VTX_WORD1_SEM.
-#[derive(Drop)]
+#[derive(Clone, Copy)]
 pub struct VtxWord1Sem {
     pub semantic_id: u32,
     // bit 8, carried
@@ -205,7 +205,7 @@ pub fn sem_fits(r: VtxWord1Sem) -> bool
 }
 
 // VTX_WORD2.
-#[derive(Drop)]
+#[derive(Clone, Copy)]
 pub struct VtxWord2 {
     pub offset: u32,
     pub endian_swap: u32,

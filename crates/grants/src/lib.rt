@@ -1,11 +1,13 @@
 // Registers and constants that an instruction names directly, and which of them a card and a clause's modes grant.
 //
 // Rules 7, 9 and 15 of document 01 ask this, and so does the claim about the walk: specs/Grants.antt says it once for all of them.
+#![tactic(auto)]
+
 ghost use Rattle.std.specs.Prelude.{◌≡◌, ◌-◌, min};
 ghost use Rattle.grants.specs.Grants.{register, alu_register, granted, all_granted, source_names, locked};
 
 // The card's figures, and the two modes of an ALU clause's opener (any number where there is none).
-#[derive(Drop)]
+#[derive(Clone, Copy)]
 pub struct Limits {
     pub gprs: u32,
     pub temps: u32,

@@ -2,7 +2,7 @@
 ghost use Rattle.std.specs.Prelude.{◌≡◌};
 ghost use Rattle.groups.specs.Code.{counted_if, together, is_one, is_several};
 
-#[derive(Drop)]
+#[derive(Clone, Copy)]
 pub enum Count {
     Nothing,
     One,

@@ -17,14 +17,14 @@ use opcodes::alu::{Issue, is_issue};
 use units::Slots;
 
 // The first instruction of a group that breaks a rule, by how many slots it lies behind the group's first.
-#[derive(Drop)]
+#[derive(Clone, Copy)]
 pub enum First {
     Nowhere,
     At(Slots),
 }
 
 // Rule 14's figures.
-#[derive(Drop)]
+#[derive(Clone, Copy)]
 pub struct Issues {
     pub setters: Count,
     // Setters and kills together.
@@ -37,7 +37,7 @@ pub struct Issues {
     pub uneven: bool,
 }
 
-#[derive(Drop)]
+#[derive(Clone, Copy)]
 pub struct Seen {
     // Literal quadwords, for rule 10.
     pub literals: u32,
@@ -52,7 +52,7 @@ pub struct Seen {
 }
 
 // What a group breaks, and how many slots behind its first.
-#[derive(Drop)]
+#[derive(Clone, Copy)]
 pub enum GroupFault {
     Clean,
     Broken(u8, Slots),

@@ -23,7 +23,7 @@ use units::{Quadwords, Slots};
 pub use words::{load, store, word_of};
 
 // What the report is made of.
-#[derive(Drop)]
+#[derive(Clone, Copy)]
 pub struct Judged {
     pub build: ReportBuild,
     pub verdict: Verdict,

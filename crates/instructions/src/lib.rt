@@ -14,7 +14,7 @@ use grants::Limits;
 use opcodes::alu::Class;
 
 // A source operand as its format has it.
-#[derive(Drop)]
+#[derive(Clone, Copy)]
 pub struct Source {
     pub sel: u32,
     pub rel: u32,

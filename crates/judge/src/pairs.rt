@@ -17,7 +17,7 @@ use units::Quadwords;
 use walk::Flow;
 
 // A control-flow pair: its words, what it is and the clause that it opens.
-#[derive(Drop)]
+#[derive(Clone, Copy)]
 pub struct Pair {
     pub low: u32,
     pub high: u32,

@@ -12,7 +12,7 @@ use units::{Quadwords, Slots};
 use walk::{Flow, Frames, Moved};
 
 // What the first pass finds at a place: a broken check, or the stack behind it.
-#[derive(Drop)]
+#[derive(Clone, Copy)]
 pub enum Ahead {
     Broken { rule: u8, place: Place, slot: Slots },
     Next(Frames),

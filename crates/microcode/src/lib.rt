@@ -18,7 +18,7 @@ use units::{Slots, Words};
 use words::RecordWords;
 
 // The five forms of a pair.
-#[derive(Drop)]
+#[derive(Clone, Copy)]
 pub enum Instruction {
     CfAlu(CfAluWord0, CfAluWord1),
     Cf(CfWord0, CfWord1),
@@ -28,14 +28,14 @@ pub enum Instruction {
 }
 
 // Where a pair stands.
-#[derive(Drop)]
+#[derive(Clone, Copy)]
 pub enum Stream {
     ControlFlow,
     Alu,
 }
 
 // What the decoder answers.
-#[derive(Drop)]
+#[derive(Clone, Copy)]
 pub enum Decoded {
     // The pair isn't wholly in the words.
     Outside,
@@ -46,7 +46,7 @@ pub enum Decoded {
 
 // What stands at a start: a pair by its form, with its two words as they are. Who needs the fields of one form only reads them from these, and
 // a record that could be of any form is never made.
-#[derive(Drop)]
+#[derive(Clone, Copy)]
 pub enum FoundPair {
     Outside,
     NotTaken,
@@ -58,7 +58,7 @@ pub enum FoundPair {
 }
 
 // What the encoder answers.
-#[derive(Drop)]
+#[derive(Clone, Copy)]
 pub enum Encoded {
     // A field exceeds its width, or the record isn't of a taken form.
     NoRecord,

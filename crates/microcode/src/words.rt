@@ -10,7 +10,7 @@ use formats::cf::{CfWord0, CfWord1};
 use formats::cf_alu::{CfAluWord0, CfAluWord1};
 use formats::export::{CfAllocExportWord0, CfAllocExportWord1Swiz};
 
-#[derive(Drop)]
+#[derive(Clone, Copy)]
 pub struct RecordWords {
     // The record is of a taken form, and each of its fields within its width.
     pub is_record: bool,

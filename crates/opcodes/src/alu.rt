@@ -7,7 +7,7 @@ ghost use Rattle.opcodes.specs.Code.{code_of, class_numbered, place_of, class_pl
 use crate::table;
 
 // The unit class: any unit, one of the four vector units, or Trans.
-#[derive(Drop)]
+#[derive(Clone, Copy)]
 pub enum Unit {
     NotTaken,
     Any,
@@ -16,7 +16,7 @@ pub enum Unit {
 }
 
 // The issue kind, by which rule 14 counts.
-#[derive(Drop)]
+#[derive(Clone, Copy)]
 pub enum Issue {
     Plain,
     Predicate,
@@ -25,7 +25,7 @@ pub enum Issue {
     Reduction,
 }
 
-#[derive(Drop)]
+#[derive(Clone, Copy)]
 pub struct Class {
     pub unit: Unit,
     pub issue: Issue,

@@ -3,14 +3,14 @@ ghost use Rattle.std.specs.Prelude.{◌≡◌, ◌<◌, ◌≤◌, ◌-◌};
 ghost use Rattle.opcodes.specs.Numbers as numbers;
 
 // What a fetch clause holds: VTX and VTX_TC open vertex fetches, TEX texture fetches.
-#[derive(Drop)]
+#[derive(Clone, Copy)]
 pub enum FetchKind {
     Vertex,
     Texture,
 }
 
 // Pairs that go to ADDR. LOOP_BREAK and LOOP_CONTINUE do the same: both go to a LOOP_END.
-#[derive(Drop)]
+#[derive(Clone, Copy)]
 pub enum Branch {
     LoopEnd,
     LoopStart,
@@ -20,7 +20,7 @@ pub enum Branch {
     Pop,
 }
 
-#[derive(Drop)]
+#[derive(Clone, Copy)]
 pub enum Control {
     NotTaken,
     Nop,

@@ -16,7 +16,7 @@ pub use explanation::write_explanation;
 pub use settings::{key_end, write_settings};
 
 // What is known of the card's build line.
-#[derive(Drop)]
+#[derive(Clone, Copy)]
 pub enum ReportBuild {
     Unknown,
     Production,
@@ -24,7 +24,7 @@ pub enum ReportBuild {
 }
 
 // How many bytes were written, or that the buffer is too small for them.
-#[derive(Drop)]
+#[derive(Clone, Copy)]
 pub enum Written {
     Length(usize),
     TooSmall,

@@ -21,7 +21,7 @@ use units::{Quadwords, Slots, Words};
 const MOST_PAIRS: usize = 512;
 
 // The clause that a pair opens: where it starts, how many slots or fetches it has, and what is to be known inside it.
-#[derive(Drop)]
+#[derive(Clone, Copy)]
 pub enum Clause {
     NoClause,
     AluClause {

@@ -9,7 +9,7 @@ use card::Number;
 
 // What one setting says: which key, counted from 0, is set to which number; or that the setting begins with none of the keys, or
 // that what stands behind its key is no number of 32 bits.
-#[derive(Drop)]
+#[derive(Clone, Copy)]
 pub enum Setting {
     NoName,
     NoNumber,

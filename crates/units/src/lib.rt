@@ -12,15 +12,15 @@ ghost use Rattle.units.specs.Units as count;
 ghost use Rattle.units.specs.Code.{capped, quadwords_in_64, slots_in_64, words_in_64};
 
 // A number of quadwords (pairs of words), or the number of one, as ADDR gives it.
-#[derive(Drop)]
+#[derive(Clone, Copy)]
 pub struct Quadwords(pub usize);
 
 // A number of slots of a clause, or the number of one, as COUNT gives it.
-#[derive(Drop)]
+#[derive(Clone, Copy)]
 pub struct Slots(pub usize);
 
 // A number of 32-bit words, or the number of one, as the buffer counts them.
-#[derive(Drop)]
+#[derive(Clone, Copy)]
 pub struct Words(pub usize);
 
 const LARGEST: usize = 0xffff_ffff_ffff_ffff;

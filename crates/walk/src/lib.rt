@@ -25,7 +25,7 @@ mod steps;
 mod targets;
 
 // What a pair does to the stack and where it goes; `pops` is POP_COUNT, `target` is ADDR.
-#[derive(Drop)]
+#[derive(Clone, Copy)]
 pub enum Flow {
     Still,
     PushMark,
@@ -39,7 +39,7 @@ pub enum Flow {
 
 // A stack: `marks` frames M over the frame of the loop that starts before `top` (over nothing where `top` is 0), `depth` frames
 // in all.
-#[derive(Drop)]
+#[derive(Clone, Copy)]
 pub struct Frames {
     pub top: Quadwords,
     pub marks: usize,
@@ -47,7 +47,7 @@ pub struct Frames {
 }
 
 // What the first pass finds at a place: a frame is missing, there is no room for one more, or the stack behind it.
-#[derive(Drop)]
+#[derive(Clone, Copy)]
 pub enum Moved {
     Lacks,
     TooDeep,
