@@ -114,6 +114,7 @@ pub fn read_card(bytes: &[u8]) -> CardRead
 }
 
 // Tests a card that a caller made against the limits that a card in bytes is held to.
+#[tactic(auto, unfolding(crate::specs::Made::test_of))]
 pub fn check_card(card: Card) -> CardTest
     ensures { result ≡ test_of card }
 {
