@@ -1,6 +1,6 @@
 // The card of document 01: what a pack may use, as seven lines of text, as a `Card`, and which line is at fault.
 //
-// The table of its lines stands once in each layer: as a definition in specs/Card.antt, as functions in rows.rt, with the limits in
+// The table of its lines stands once in each layer: as a definition in specs/Card.antt, as functions in lines.rt, with the limits in
 // limits.rt. A line more is a row more in each.
 //
 // The keys and numbers of other texts NAME=number are read by the same functions: `begins_with` and `read_number`.
