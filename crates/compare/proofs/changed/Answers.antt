@@ -9,8 +9,8 @@ use Rattle.compare.proofs.changed.Goals as goal
 
 pub returns : goal.returns
 returns c =
-    let both = let beginning = c.?common-beginning.ensures.0 in (
-      part_words _ _ _ _ beginning c.?common-ending.ensures.0,
-      part_place ⟪c.before.before.before.before.before.before.before.args.newer⟫ _ _ beginning,
-    ) in
-    record { result_value = both.0; ref_ptr_value = both.1 }
+    let beginning = c.common_beginning-start.ensures.value in
+    record {
+      result_value = part_words _ _ _ _ beginning c.common_ending-ending.ensures.value;
+      ref_ptr_value = part_place c.args.newer _ _ beginning;
+    }

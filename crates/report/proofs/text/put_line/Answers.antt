@@ -11,6 +11,5 @@ use Rattle.report.proofs.text.put_line.Goals as goal
 
 pub returns : goal.returns
 returns c =
-    let all_digits_lem = as_bytes ((let spelt = c.decimal-first in
-        spelt_part c.args.n 20 spelt.result spelt.new.1.0 spelt.ensures.1 (omega arith))) c.put-at_end.ensures in
-    both_appended c.put-at_digits.ensures (both_appended all_digits_lem c.put.ensures)
+    let spelt = spelt_part c.args.n 20 c.decimal-first.result c.decimal-first.new.digits c.decimal-first.ensures.digits_after (omega arith) in
+    both_appended c.put-at_digits.ensures (both_appended (as_bytes spelt c.put-at_end.ensures) c.put.ensures)

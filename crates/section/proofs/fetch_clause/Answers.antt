@@ -8,18 +8,14 @@ use Rattle.units.specs.Units.{quadwords, counted}
 use Rattle.units.specs.Code.{slots_in_64}
 use Rattle.section.specs.Rules.{clause_of}
 use Rattle.section.proofs.OfTests.{counted_exact}
-use Rattle.section.proofs.fetch_clause.Statement.{statement}
-use Rattle.section.proofs.fetch_clause.Tie as tie
+use Rattle.section.proofs.fetch_clause.Goals as goal
 
-returns : tie.Need-returns
+pub returns : goal.returns
 unfolding clause_of
 returns c =
-    let a = c.before.before.before.args in
+    let a = c.args in
     let n =
-    c.counted-by.ensures
-    ∙ (λ j. slots_in_64 (counted (c.before.read_count.ensures j)))
+    c.counted_by-fetches.ensures
+    ∙ (λ j. slots_in_64 (counted (c.read_count-count.ensures j)))
     ∙ counted_exact (count_of a.high).0 (omega arith) in
-    λ i. FetchClause (quadwords (c.before.before.read.ensures i)) (n i) a.kind
-
-pub fetch-clause-spec : {M : Type 1} → statement M
-fetch-clause-spec = tie.close (tie.spec (λ c κs. tt) (λ c. search rules) (λ c κs. tt) (λ c κs. tt) returns)
+    λ i. FetchClause (quadwords (c.read.ensures i)) (n i) a.kind
