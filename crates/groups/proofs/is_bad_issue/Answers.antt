@@ -11,4 +11,4 @@ returns c =
     let n = a.issues in
     λ i.
     c.is_several.ensures i
-    || ((n.kill && not a.may-kill) || ((n.mova && n.relative) || (n.reduction && (ltb a.size.0 4 || n.uneven))))
+    || ((n.kill && not a.may_kill) || ((n.mova && n.relative) || (n.reduction && (ltb a.size.0 4 || n.uneven))))

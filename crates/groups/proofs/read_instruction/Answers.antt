@@ -19,7 +19,7 @@ returns c =
     c.larger.ensures
     c.or_here.ensures
     c.is_bad_field.ensures
-    c.or_here-3.ensures
+    c.or_here-2.ensures
     c.or_here-3.ensures
     c.operands_granted.ensures
     c.or_here-4.ensures
