@@ -74,15 +74,15 @@ needed() {
         END { n = split(wanted, names, " "); for (i = 1; i <= n; i++) visit(names[i]) }'
 }
 
-# begin_proving NAME..: what `make` is to prove.
+# begin_proving NAME..: what `build` is to prove.
 begin_proving() {
     listed=$(needed "$@")
     count=$(printf '%s\n' "$listed" | wc -l)
     echo "$name: proving what has changed of $count crates; the first time this takes some minutes" >&2
 }
 
-# make NAME FILE COMMAND..: what rt makes of a crate, in its out/, by this command in its folder, which also proves what it needs.
-make() {
+# build NAME FILE COMMAND..: what rt makes of a crate, in its out/, by this command in its folder, which also proves what it needs.
+build() {
     of=$1 file=crates/$1/out/$2
     shift 2
     # What is not known to be of the last build is not taken over: where its file is missing rt makes it anew. Whether it stands there is what tells: a
@@ -97,7 +97,7 @@ shown() {
     while IFS= read -r line; do
         case $line in
         "rt: running "*) break ;;
-        "rt: waiting "*) echo "$name: ${line#rt: }" >&2 ;;
+        "rt: waiting "* | "rt: "*"waiting for it"*) echo "$name: ${line#rt: }" >&2 ;;
         "crate "*": modules "*) crate=${line#crate } crate=${crate%%:*} ;;
         "logic=proved "*) echo "$name: $(printf '%s\n' "$listed" | grep -nx "$crate" | cut -d : -f 1) of $count crates proved: $crate" >&2 ;;
         esac
