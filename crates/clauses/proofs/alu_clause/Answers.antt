@@ -8,5 +8,5 @@ use Rattle.clauses.proofs.alu_clause.Goals as goal
 pub returns-then-not-slots_lie_in : goal.returns-then-not-slots_lie_in
 returns-then-not-slots_lie_in c =
     let a = c.args in
-    outside a.kind a.push-before a.limits a.words.now a.place a.start a.slots
+    outside a.kind a.push_before a.limits a.words.now a.place a.start a.slots
     (sym c.slots_lie_in.ensures ∙ not-true _ (ap not c.if-not-slots_lie_in.true))

@@ -14,10 +14,10 @@ judge_group-step-requires c =
     c.is_slot_below.ensures c.loop-slots-test.true
 
 pub returns-in-Broken : goal.returns-in-Broken
-returns-in-Broken c =
+returns-in-Broken c kind p =
     let a = c.args in
     going-broken a.pixel a.limits a.words.now a.place a.start a.slots (search rules) c.requires c.loop-slots.invariant
-    c.is_slot_below.ensures c.loop-slots-test.true c.judge_group-step.ensures kind a.push-before p c.in-Broken.is
+    c.is_slot_below.ensures c.loop-slots-test.true c.judge_group-step.ensures kind a.push_before p c.in-Broken.is
     c.slots_left-passed.ensures c.slot_behind.ensures c.refused.ensures
 
 pub loop-slots-smaller : goal.loop-slots-smaller
@@ -34,7 +34,7 @@ loop-slots-preserved c =
     c.together-setters.ensures c.slot_quadword-at.ensures
 
 pub returns : goal.returns
-returns c =
+returns c kind p =
     let a = c.args in
     going_done a.pixel a.limits a.words.now a.place a.start a.slots (search rules) c.requires c.loop-slots.invariant kind
-    a.push-before p c.is_slot_below.ensures c.loop-slots-test.false c.push_verdict.ensures
+    a.push_before p c.is_slot_below.ensures c.loop-slots-test.false c.push_verdict.ensures

@@ -5,10 +5,10 @@ use Rattle.clauses.proofs.push_verdict.Goals as goal
 pub returns-then-push_before-is_one : goal.returns-then-push_before-is_one
 returns-then-push_before-is_one c =
     let a = c.args in
-    push_refused a.push-before a.setters a.place _ _ c.is_one.ensures c.if-push_before-is_one.true
+    push_refused a.push_before a.setters a.place _ _ c.is_one.ensures c.if-push_before-is_one.true
     c.refused.ensures
 
 pub returns : goal.returns
 returns c =
     let a = c.args in
-    push_passed a.push-before a.setters a.place _ c.is_one.ensures c.if-push_before-is_one.false
+    push_passed a.push_before a.setters a.place _ c.is_one.ensures c.if-push_before-is_one.false

@@ -7,7 +7,7 @@ use Rattle.clauses.proofs.OfRead.{Reading, frame, first_high, low_there, high_th
 use Rattle.clauses.proofs.read_group.Goals as goal
 
 pub loop-j-init : goal.loop-j-init
-loop-j-init c =
+loop-j-init c at e =
     let a = c.args in
     reading_none a.words.now at a.left a.limits (first_high a.words.now at e) c.none_seen-seen.ensures
 
@@ -31,7 +31,7 @@ returns-then-read-eq1 c =
     c.read_instruction-seen.ensures c.read.ensures c.if-read-eq1.true
 
 pub loop-j-preserved : goal.loop-j-preserved
-loop-j-preserved c =
+loop-j-preserved c at e =
     let a = c.args in
     let b = c.is_slot_below.ensures in
     let j = c.loop-j.j in

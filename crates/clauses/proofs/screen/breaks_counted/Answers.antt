@@ -9,7 +9,7 @@ use Rattle.clauses.proofs.OfScreen.{issues_kept}
 use Rattle.clauses.proofs.screen.breaks_counted.Goals as goal
 
 pub returns : goal.returns
-returns c =
+returns c e =
     let a = c.args in
     let w = a.words.now in
     issues_kept w a.at a.seen.issued a.seen.taken c.requires c.if-issued-kills-gt1.false c.if-kills-may_kill.false

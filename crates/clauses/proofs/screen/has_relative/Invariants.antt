@@ -9,7 +9,7 @@ use Rattle.clauses.proofs.OfScreen.{low_at_lem, high_at_lem, any_none, any_more}
 use Rattle.clauses.proofs.screen.has_relative.Given as goal
 
 abbrev pub invariant-loop-j : goal.invariant-loop-j
-invariant-loop-j l = (l.j ≤ l.size) × (l.any ≡ any_below (relative l.words l.first) l.j)
+invariant-loop-j l = (l.j ≤ l.size) × (l.any ≡ any_below (λ k. has_relative (low_of l.words (quadwords l.first) k) (high_of l.words (quadwords l.first) k)) l.j)
 
 abbrev pub decreases-loop-j : goal.decreases-loop-j
 decreases-loop-j l = l.size - l.j

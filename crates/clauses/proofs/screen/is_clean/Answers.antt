@@ -12,7 +12,7 @@ use Rattle.clauses.proofs.OfScreen.{Glancing, glancing_none, glancing-done, issu
 use Rattle.clauses.proofs.screen.is_clean.Goals as goal
 
 pub loop-at-init : goal.loop-at-init
-loop-at-init c =
+loop-at-init c limits s n p q o e fits =
     let a = c.args in
     transport (λ i. Glancing limits a.pixel a.words.now s n (sym o i) 0 c.none_seen-seen.result)
     (glancing_none limits a.pixel a.words.now s n c.none_seen-seen.result c.none_seen-seen.ensures)
@@ -93,7 +93,7 @@ overflow_add-setters c =
     record { fits = omega (arith, glance.few, glance.at-is, room, end, c.loop-at-test.true) }
 
 pub loop-at-preserved : goal.loop-at-preserved
-loop-at-preserved c =
+loop-at-preserved c limits s n p q o e fits =
     let a = c.args in
     let here : c.loop-at.at < s.0 + n.0 = omega (arith, c.loop-at-test.true, e) in
     glancing-step limits a.pixel a.words.now s n (c.loop-at.invariant limits s n p q o e (omega (arith, here))) here refl refl
@@ -103,7 +103,7 @@ loop-at-preserved c =
     c.kept-seen.ensures fits
 
 pub returns : goal.returns
-returns c =
+returns c e =
     let loop = c.loop-at in
     let a = c.args in
     let room = reach a.words.now a.start a.slots c.requires in
@@ -113,4 +113,4 @@ returns c =
     let end = eqb-true loop.at c.slot_quadword-end.result.0 x.0 ∙ stop in
     glancing-done a.limits a.pixel a.words.now a.start a.slots
     (loop.invariant a.limits a.start a.slots c.gap_starts-starts.ensures c.gap_widths-widths.ensures refl stop (omega (arith, end)))
-    a.push-before c.requires end (eqb-true loop.seen.issued 0 y.0) y.1
+    a.push_before c.requires end (eqb-true loop.seen.issued 0 y.0) y.1

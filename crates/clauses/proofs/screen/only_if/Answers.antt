@@ -6,4 +6,4 @@ use Rattle.clauses.proofs.screen.only_if.Goals as goal
 pub returns : goal.returns
 returns c =
     let a = c.args in
-    masked a.bit a.x _ c.requires (search rules) (search rules) c.wrapping_sub_u32.ensures
+    masked a.bit a.x _ c.requires (search rules) (search rules) c.wrapping_sub_u32.ensures.value
