@@ -17,5 +17,5 @@ returns c =
     answer_of
     ((c.alu_clause-v.ensures
     ∙
-    (λ j. first_broken (clause_checks (c.kind_of-whose.ensures j) (not (eqb a.push-before 0)) (limits_of a.gprs a.temps a.consts a.modes) a.words.now (quadwords 0) (quadwords a.start) (slots a.count))))
+    (λ j. first_broken (clause_checks (c.kind_of-whose.ensures j) (not (eqb a.push_before 0)) (limits_of a.gprs a.temps a.consts a.modes) a.words.now (quadwords 0) (quadwords a.start) (slots a.count))))
     i))

@@ -8,8 +8,12 @@ use Rattle.judge_for_c.proofs.zlatomruk_judge.Goals as goal
 
 pub returns : goal.returns
 returns c =
-    let judged = (c.judge_bytes-v.ensures.value, c.judge_bytes-v.ensures.safely_read) in
+    let judged = c.judge_bytes-v.ensures in
     let args = c.args in
-    let e = c.packed_number.ensures ∙ ap (λ v. packed v 0) judged.0 in
+    let e = c.packed_number.ensures ∙ ap (λ v. packed v 0) judged.value in
     let narrow = bytes_narrow args.card.now args.words.now in
-    record { value = e; read_back = read_back _ narrow 0 (omega arith) e; safely_read = λ z. judged.1 (judged.0 ∙ zero_accepted _ narrow 0 (omega arith) e z) }
+    record {
+      value = e;
+      read_back = read_back _ narrow 0 (omega arith) e;
+      safely_read = λ z. judged.safely_read (judged.value ∙ zero_accepted _ narrow 0 (omega arith) e z);
+    }
