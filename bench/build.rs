@@ -1,12 +1,12 @@
-//! Points the linker at the archives: target/libzlatomruk.a, which `tools/archive` makes and C links, and that of one clause's rules in
-//! target/staticlib, which `rt staticlib` makes for these comparisons alone.
+//! Points the linker at the archives: target/libzlatomruk.a, which `tools/archive` makes and C links, and that of one clause's rules, which
+//! `rt lib` makes in crates/bench_clause_c for these comparisons alone.
 
 use std::path::Path;
 
 fn main() {
-    let target = Path::new(env!("CARGO_MANIFEST_DIR")).join("..").join("target");
-    link(&target, "zlatomruk", "tools/archive");
-    link(&target.join("staticlib"), "bench_clause", "rt staticlib bench_clause");
+    let root = Path::new(env!("CARGO_MANIFEST_DIR")).join("..");
+    link(&root.join("target"), "zlatomruk", "tools/archive");
+    link(&root.join("crates/bench_clause_c/out"), "bench_clause_c", "cd crates/bench_clause_c && rt lib");
 }
 
 fn link(folder: &Path, library: &str, command: &str) {

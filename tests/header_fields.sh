@@ -3,7 +3,7 @@
 # fields (crates/formats/specs/Fields.antt) gives it, highest and lowest. A name that the table lacks gets bits that the test refuses.
 header_fields() {
     {
-        sed -n 's/^position «\([A-Z0-9_]*\)» = bits \([0-9]*\) \([0-9]*\)$/at \1 \2 \3/p; s/^position «\([A-Z0-9_]*\)» = bit \([0-9]*\)$/at \1 \2 \2/p' "$2"
+        sed -n 's/«//; s/»//; s/^position \([A-Z0-9_]*\) = bits \([0-9]*\) \([0-9]*\)$/at \1 \2 \3/p; s/^position \([A-Z0-9_]*\) = bit \([0-9]*\)$/at \1 \2 \2/p' "$2"
         grep -o 'ZLATOMRUK_\(CF_ALU\|CF\|EXPORT\|ALU\|OP2\|OP3\|TEX\|VTX\)_[A-Z0-9_]*' "$1" |
             grep -vx 'ZLATOMRUK_\(CF_ALU\|VTX_GPR\|VTX_SEM\)' | sort -u
     } | awk '

@@ -1,5 +1,5 @@
 //! The proved functions: the judge and both codecs from the archive that C links (libzlatomruk.a), and rules 10 to 15 on one clause, which is in
-//! an archive for these comparisons alone (libbench_clause.a).
+//! an archive for these comparisons alone (libbench_clause_c.a).
 
 use crate::plain::Kind;
 

@@ -21,9 +21,7 @@ cp "$card" "$pack" "$work"
 card=$work/copy.card
 pack=$work/copy.pack
 copy="$work/a copy"
-mkdir -p "$copy/target"
-cp -r crates crates.txt judge tools VERSION "$copy"
-cp -r target/bin target/built "$copy/target"
+checkout "$copy" judge
 chmod -R a-w,a+rX "$copy"
 reports "a read-only checkout" "$yes" as_nobody "$copy/judge" "$card" "$pack"
 reports "a checkout without the kit" "$yes" without_kit "$copy/judge" "$card" "$pack"

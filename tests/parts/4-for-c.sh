@@ -37,7 +37,7 @@ done
 header_fields include/zlatomruk.h crates/formats/specs/Fields.antt >"$work/fields.h"
 holds "the header's test compiles" cc -std=c99 -D_POSIX_C_SOURCE=200809L -Wall -Wextra -Werror -Iinclude -I"$work" tests/header.c $archive -lpthread -o "$work/header"
 holds "the header agrees with the sources" "$work/header"
-sed 's/DST_GPR» = bits 27 21/DST_GPR» = bits 27 22/' crates/formats/specs/Fields.antt >"$work/moved"
+sed 's/DST_GPR = bits 27 21/DST_GPR = bits 27 22/' crates/formats/specs/Fields.antt >"$work/moved"
 mkdir "$work/apart"
 header_fields include/zlatomruk.h "$work/moved" >"$work/apart/fields.h"
 found_apart() {

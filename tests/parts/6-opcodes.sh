@@ -17,11 +17,11 @@ holds "$table: 111 numbers are taken" [ "$(wc -l <"$work/row_numbers")" -eq 111 
 # The commands of docs/OPCODES.md, each change on a copy of its own, say what stands below them there.
 sed -n 's/^    //p' docs/OPCODES.md >"$work/session"
 sed -n 's/^\$ \(sed .*\)/\1/p' "$work/session" >"$work/changes"
-sed -n 's/^\$ \(rt .*\)/\1/p' "$work/session" >"$work/commands"
+sed -n 's/^\$ \((cd .*rt .*\)/\1/p' "$work/session" >"$work/commands"
 while read -r change <&3 && read -r command <&4; do
     rm -rf "$work/opcodes"
-    mkdir -p "$work/opcodes/crates"
-    cp -r crates/laws crates/opcodes "$work/opcodes/crates"
+    mkdir "$work/opcodes"
+    sources_of crates/laws crates/opcodes | xargs -0 cp --parents -t "$work/opcodes"
     printf 'laws:\nopcodes: laws\n' >"$work/opcodes/crates.txt"
     printf '$ %s\n$ %s\n' "$change" "$command"
     (cd "$work/opcodes" && eval "$change" && eval "$command")

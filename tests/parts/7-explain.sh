@@ -121,9 +121,8 @@ cd "$root" || exit 2
 
 # A checkout that can't be written, and one without the kit.
 copy="$work/another copy"
-mkdir -p "$copy/target" "$work/example"
-cp -r crates crates.txt explain tools VERSION "$copy"
-cp -r target/bin target/built "$copy/target"
+checkout "$copy" explain
+mkdir "$work/example"
 cp $refused.card "$work/example/card"
 cp $refused.pack "$work/example/pack"
 set -- "$work/example/card" "$work/example/pack"

@@ -19,7 +19,7 @@ for edit in \
 done
 
 # Part 4 holds the header against the table of fields, fetches among them; and that this can fail with one of theirs.
-sed 's/LOD_BIAS» = bits 27 21/LOD_BIAS» = bits 27 22/' crates/formats/specs/Fields.antt >"$work/moved"
+sed 's/LOD_BIAS = bits 27 21/LOD_BIAS = bits 27 22/' crates/formats/specs/Fields.antt >"$work/moved"
 header_fields include/zlatomruk.h "$work/moved" >"$work/apart/fields.h"
 holds "a fetch's field that is moved in the table is found" found_apart
 

@@ -84,11 +84,11 @@ shows "VTX in small letters" "$desk/sem" ./fetch vtx 3 "$desk/forms.pack"
 
 # The forms' fields in their order, from the definitions, a line each: form, word, name, highest and lowest bit.
 {
-    sed -n 's/^position «\([A-Z0-9_]*\)» = bits \([0-9]*\) \([0-9]*\)$/at \1 \2 \3/p; s/^position «\([A-Z0-9_]*\)» = bit \([0-9]*\)$/at \1 \2 \2/p' \
+    sed -n 's/«//; s/»//; s/^position \([A-Z0-9_]*\) = bits \([0-9]*\) \([0-9]*\)$/at \1 \2 \3/p; s/^position \([A-Z0-9_]*\) = bit \([0-9]*\)$/at \1 \2 \2/p' \
         crates/formats/specs/Fields.antt
     for format in Tex Vtx; do
         echo "format $format"
-        sed -n 's/^\([a-z0-9]*\)Fields =$/list \1/p; s/^[^(]*("\([A-Z0-9_]*\)", «\([A-Z0-9_]*\)»)$/field \1 \2/p' crates/formats/specs/$format.antt
+        sed -n 's/«//; s/»//; s/^\([a-z0-9]*\)_fields =$/list \1/p; s/^[^(]*("\([A-Z0-9_]*\)", \([A-Z0-9_]*\))$/field \1 \2/p' crates/formats/specs/$format.antt
     done
 } | awk '
     BEGIN {
@@ -482,9 +482,7 @@ pack=$texture.pack
 
 # A checkout that can't be written, and one without the kit.
 copy="$work/a third copy"
-mkdir -p "$copy/target"
-cp -r crates crates.txt fetch tools VERSION "$copy"
-cp -r target/bin target/built "$copy/target"
+checkout "$copy" fetch
 cp $pack "$desk/example"
 chmod 755 "$desk"
 chmod -R a-w,a+rX "$copy"

@@ -1,4 +1,4 @@
-// Rules 10 to 15 on one ALU clause, for bench/ alone, which compares and times them beside plain Rust (`rt staticlib bench_clause`).
+// Rules 10 to 15 on one ALU clause, for bench/ alone, which compares and times them beside plain Rust (crate bench_clause_c exports it).
 //
 // No part of the product: rule 6 is not asked here, so a clause outside of the words answers 0, as one that breaks nothing does.
 #![tactic(auto)]

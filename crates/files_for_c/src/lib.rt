@@ -1,5 +1,5 @@
-// The judge on files for C and Rust to link, by `rt staticlib files_for_c`: a card and a pack as bytes, as `judge_files` reads them. A verdict
-// comes back as one number (crate judge_for_c, specs/Packed.antt).
+// The judge on files for C and Rust to link, by crate files_for_c_c, which exports it: a card and a pack as bytes, as `judge_files` reads them. A
+// verdict comes back as one number (crate judge_for_c, specs/Packed.antt).
 #![tactic(auto)]
 
 ghost use Rattle.std.specs.Prelude.{◌≡◌, cond};

@@ -1,5 +1,5 @@
-// The judge on words for C and Rust to link. The judge on files is in crate files_for_c, the codec in codec_for_c: `tools/archive` compiles each by
-// itself and joins them to one archive (docs/DECISIONS.md, "One archive for C").
+// The judge on words for C and Rust to link, by crate judge_for_c_c, which exports it. The judge on files is in crate files_for_c, the codec in
+// codec_for_c: `tools/archive` compiles each by itself and joins them to one archive (docs/DECISIONS.md, "One archive for C").
 //
 // A slice is passed as a pointer and a length. A verdict comes back as one number (specs/Packed.antt).
 #![tactic(auto)]
