@@ -1,6 +1,8 @@
--- Files read into a room. What stands in one is for the system to say: only how much of the room it takes is said here.
-use Rattle.std.specs.Prelude.{ℕ, min, Bool, true, false, List}
-use Rattle.io.specs.Counts.{IsPrefixLen}
+-- Files read into a room. What stands in one is for the system to say, and of those only how much of the room they take is said here; what a reader
+-- whose bytes are known gives stands in the room.
+use Rattle.std.specs.Prelude.{ℕ, ◌<◌, min, Bool, true, false, Option, List, length, take}
+use Rattle.std.specs.Io.KnownBytes.{Consumes, IsAtEnd}
+use Rattle.std.specs.Counts.{IsPrefixLen}
 use Rattle.console.specs.declared.files.FileRead.{FileRead}
 use Rattle.console.specs.declared.files.FileRead.TheVariants.{Failed, Bytes}
 
@@ -8,6 +10,11 @@ use Rattle.console.specs.declared.files.FileRead.TheVariants.{Failed, Bytes}
 abbrev pub Within : FileRead → List ℕ → Type 0
 Within Failed room = Unit {0}
 Within (Bytes n) room = IsPrefixLen n room
+
+-- where it is known which bytes a reader has left, those that are counted are the first of them; and where the room has more, all of them
+abbrev pub ReadFrom : Option (List ℕ) → Option (List ℕ) → FileRead → List ℕ → Type 0
+ReadFrom old new Failed room = Unit {0}
+ReadFrom old new (Bytes n) room = Consumes old new (take n room) × (n < length room → IsAtEnd new)
 
 -- so many of a room of that length
 abbrev pub bytes_of : FileRead → ℕ → ℕ

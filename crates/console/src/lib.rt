@@ -1,5 +1,7 @@
 // What the programs share: room for what they read, standard input, files by the arguments that name them, and the
 // report or the explanation on standard output.
+#![tactic(auto)]
+
 mod files;
 
 ghost use Rattle.std.specs.Prelude.{◌≡◌, ℕ, ◌≤◌, length, replicate};
@@ -9,8 +11,9 @@ ghost use Rattle.input.specs.Input.{report_of, report_of_files};
 ghost use Rattle.explain.specs.Lines.{lines_of_input, lines_of_files};
 ghost use Rattle.console.specs.Rooms.{HoldsInput, HoldsCard, HoldsPack, HoldsReport, HoldsExplanation};
 
-pub use files::{FileRead, Tool, bytes_read, is_failed, read_argument, read_input};
-use libc::STDOUT_FILENO;
+pub use files::{
+    FileRead, Tool, bytes_read, is_failed, is_given, read_all, read_argument, read_input,
+};
 use report::Written;
 
 // Room for a byte more than the longest card and the longest pack have: what stands behind those changes no report and no explanation, so an
@@ -54,27 +57,49 @@ pub fn explanation_room() -> [u8; 156]
 }
 
 // Writes the report on an input, made in the lent room; nothing where the room is too small.
-pub fn report_on(input: &[u8], room: &mut [u8])
+pub fn report_on(output: &impl Print, errors: &impl Print, input: &[u8], room: &mut [u8])
     ensures { room.new ≡ buffer_after (report_of input.now) room.old }
 {
     let written = input::report_input(input, room);
-    show(Tool::Judge, written, room, b"the report was not written");
+    show(
+        output,
+        errors,
+        Tool::Judge,
+        written,
+        room,
+        b"the report was not written",
+    );
 }
 
 // The same on a card's file and a pack's.
-pub fn report_on_files(card: &[u8], pack: &[u8], room: &mut [u8])
+pub fn report_on_files(
+    output: &impl Print,
+    errors: &impl Print,
+    card: &[u8],
+    pack: &[u8],
+    room: &mut [u8],
+)
     ensures { room.new ≡ buffer_after (report_of_files card.now pack.now) room.old }
 {
     let written = input::report_files(card, pack, room);
-    show(Tool::Judge, written, room, b"the report was not written");
+    show(
+        output,
+        errors,
+        Tool::Judge,
+        written,
+        room,
+        b"the report was not written",
+    );
 }
 
 // The same with the explanation.
-pub fn explain_on(input: &[u8], room: &mut [u8])
+pub fn explain_on(output: &impl Print, errors: &impl Print, input: &[u8], room: &mut [u8])
     ensures { room.new ≡ buffer_after (lines_of_input input.now) room.old }
 {
     let written = explain::write_input_explanation(input, room);
     show(
+        output,
+        errors,
         Tool::Explain,
         written,
         room,
@@ -83,11 +108,19 @@ pub fn explain_on(input: &[u8], room: &mut [u8])
 }
 
 // The same on a card's file and a pack's.
-pub fn explain_on_files(card: &[u8], pack: &[u8], room: &mut [u8])
+pub fn explain_on_files(
+    output: &impl Print,
+    errors: &impl Print,
+    card: &[u8],
+    pack: &[u8],
+    room: &mut [u8],
+)
     ensures { room.new ≡ buffer_after (lines_of_files card.now pack.now) room.old }
 {
     let written = explain::write_files_explanation(card, pack, room);
     show(
+        output,
+        errors,
         Tool::Explain,
         written,
         room,
@@ -96,13 +129,20 @@ pub fn explain_on_files(card: &[u8], pack: &[u8], room: &mut [u8])
 }
 
 // What can't be written is told on standard error, by the name that `lost` has for it.
-fn show(tool: Tool, written: Written, room: &[u8], lost: &[u8])
+fn show(
+    output: &impl Print,
+    errors: &impl Print,
+    tool: Tool,
+    written: Written,
+    room: &[u8],
+    lost: &[u8],
+)
     requires { (n : ℕ) → written ≡ Length n → n ≤ length room.now }
 {
     match written {
         Written::Length(n) => {
-            if !io::write_all(STDOUT_FILENO, &room[..n]) {
-                files::tell(tool, lost);
+            if let Err(reason) = output.write_all(&room[..n]) {
+                files::tell(errors, tool, lost, reason);
             }
         }
         Written::TooSmall => {}
