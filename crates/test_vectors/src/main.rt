@@ -78,12 +78,10 @@ fn run(
     bytes: &mut [u8],
     room: &mut [u8],
 ) -> io::Result<()> {
-    let mut left: u32 = 10000;
-    while left > 0 {
+    for _ in 0..10000u32 {
         if !next_case(input, output, errors, bytes, room)? {
-            return Ok(());
+            break;
         }
-        left -= 1;
     }
     Ok(())
 }
