@@ -4,6 +4,8 @@
 // plain where one is the highest of them once more. At the first that is neither the pairs are looked at again, with a mark to each quadword
 // (`marks`), and the first whose clause is not apart from those before is known from then on. So most packs have no marks, and in any other each
 // quadword is marked once.
+#![tactic(auto)]
+
 mod marks;
 mod ranges;
 

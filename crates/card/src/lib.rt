@@ -1,6 +1,6 @@
 // The card of document 01: what a pack may use, as seven lines of text, as a `Card`, and which line is at fault.
 //
-// The table of its lines stands once in each layer: as a definition in specs/Card.antt, as functions in rows.rt, with the limits in
+// The table of its lines stands once in each layer: as a definition in specs/Card.antt, as functions in lines.rt, with the limits in
 // limits.rt. A line more is a row more in each.
 //
 // The keys and numbers of other texts NAME=number are read by the same functions: `begins_with` and `read_number`.
@@ -114,6 +114,7 @@ pub fn read_card(bytes: &[u8]) -> CardRead
 }
 
 // Tests a card that a caller made against the limits that a card in bytes is held to.
+#[tactic(auto, unfolding(crate::specs::Made::test_of))]
 pub fn check_card(card: Card) -> CardTest
     ensures { result ≡ test_of card }
 {

@@ -1,5 +1,7 @@
 // The codec for C and Rust to link, by `rt staticlib codec_for_c`: an instruction or a fetch as a row of 32-bit values, its form and then its
 // fields in AMD's order (specs/Values.antt and specs/FetchValues.antt).
+#![tactic(auto)]
+
 mod fetch_records;
 mod fetch_rows;
 mod fetch_words;

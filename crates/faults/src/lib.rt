@@ -1,6 +1,8 @@
 // The first number of an instruction that is not granted, and the first of its sort that is not: what rules 9 and 15 have to tell.
 //
 // It is asked only of an instruction that a verdict names, so each operand is looked at, whatever the others are.
+#![tactic(auto)]
+
 ghost use Rattle.std.specs.Prelude.{◌≡◌, [], ◌∷◌};
 ghost use Rattle.grants.specs.Grants.{register, alu_register, source_names};
 ghost use Rattle.instructions.specs.Instruction as instruction;

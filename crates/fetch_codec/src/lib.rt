@@ -1,6 +1,8 @@
 // Fetches in full: the four words of a fetch as a record with AMD's field names, and back.
 //
 // A decoder is told which clause a fetch stands in: the words of a fetch do not say of which kind it is, and rule 8 goes by the clause.
+#![tactic(auto)]
+
 mod four;
 mod words;
 

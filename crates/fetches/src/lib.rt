@@ -1,4 +1,6 @@
 // Rules 8 and 9 on a fetch clause: document 01, the paragraph on fetches in "Control-flow words".
+#![tactic(auto)]
+
 ghost use Rattle.std.specs.Prelude.{◌≡◌};
 ghost use Rattle.checks.specs.Checks.{first_broken};
 ghost use Rattle.grants.specs.Grants.{all_granted};

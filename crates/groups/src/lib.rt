@@ -2,6 +2,8 @@
 //
 // Document 01 orders a group's checks by rule first and by slot second, and a loop goes by slot. So `Seen` keeps for each rule the first
 // instruction that breaks it, and the group's answer is read off at its end. Each instruction is decoded once.
+#![tactic(auto)]
+
 pub mod alu_units;
 pub mod counts;
 

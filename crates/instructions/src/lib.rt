@@ -2,6 +2,8 @@
 //
 // Each question is a function of the words, so that a caller reads an instruction's words once and asks what it needs; the compiler
 // shares the shifts and masks. Nothing branches on what a pack holds, since no branch could be foreseen: tests are joined by | and &.
+#![tactic(auto)]
+
 ghost use Rattle.std.specs.Prelude.{◌≡◌, max, cond};
 ghost use Rattle.grants.specs.Grants.{all_granted};
 ghost use Rattle.instructions.specs.Instruction as instruction;

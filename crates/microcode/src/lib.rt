@@ -1,6 +1,8 @@
 // The word pairs that are taken, as records with AMD's field names: decoder and encoder.
 //
 // A decoder is told which stream a pair stands in, since ALU pairs and control-flow pairs are told apart by their place only.
+#![tactic(auto)]
+
 mod pair;
 pub mod words;
 

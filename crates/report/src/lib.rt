@@ -2,6 +2,8 @@
 //
 // A report and an explanation are made in a buffer of this crate's own first: a lent buffer that is too small stays as it was, and
 // how many bytes a report has is known only once its numbers are written.
+#![tactic(auto)]
+
 mod explanation;
 mod settings;
 mod text;

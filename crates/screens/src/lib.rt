@@ -3,6 +3,8 @@
 // The sources that these rules refuse are gaps among the 1,024 values that SEL and REL have together, and each row of 32 values has one at
 // most: so a source is looked up in a table of gaps, which is made once for a clause. Which rule is broken, and where, is left to
 // `groups`. Branches go by what an accepted pack never has, so that each of them is foreseen.
+#![tactic(auto)]
+
 ghost use Rattle.std.specs.Prelude.{◌≡◌, ◌-◌, min};
 ghost use Rattle.screens.specs.Code.{by_row, starts_of, widths_of, is_among, in_gap, writes_gap, bad_modes, asks_literal, is_second, asks_second, more_literals, broken_by};
 

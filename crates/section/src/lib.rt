@@ -1,6 +1,8 @@
 // Rules 2 to 7 of document 01: the length, the end of the control-flow section, and what is asked of one control-flow pair.
 //
 // A pair is told apart once, by its high word; every rule then goes by what it is.
+#![tactic(auto)]
+
 ghost use Rattle.std.specs.Prelude.{◌≡◌};
 ghost use Rattle.units.specs.Units.{quadwords};
 ghost use Rattle.opcodes.specs.declared.cf.Control.TheVariants as variant;

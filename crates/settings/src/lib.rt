@@ -1,4 +1,6 @@
 // Settings read back: one setting NAME=number, for names that a caller gives, as `report::write_settings` writes them.
+#![tactic(auto)]
+
 ghost use Rattle.std.specs.Prelude.{◌≡◌};
 ghost use Rattle.card.specs.Text.{number_in, of_32_bits};
 ghost use Rattle.report.specs.Settings.{keys_in};

@@ -6,6 +6,8 @@
 // and proofs/OfSecond.antt say that the rows are as good.
 //
 // Every place here is a control-flow quadword, counted from 0.
+#![tactic(auto)]
+
 ghost use Rattle.std.specs.Prelude.{◌≡◌, ◌-◌, cond};
 ghost use Rattle.opcodes.specs.declared.cf.Control.TheVariants as controls;
 ghost use Rattle.checks.specs.Checks.{first_broken, below};

@@ -1,110 +1,98 @@
 -- `card::lines::kind_line` meets its contract: behind the key, the words of the list, one after the other. Assumes nothing.
-use borrow.Author.Rules.{rules}
 use mathlib.Core.Path.{◌≡◌, refl}
 use mathlib.Core.List.{List, [], ◌∷◌, ◌++◌}
-use Prim.Native.Nat.{ℕ}
+use Prim.Native.Nat.{ℕ, ◌+◌}
 use Prim.Native.String.{String}
-use lib.ListN.{drop}
-use Rattle.card.specs.Text.{text, found, first_line, word_in}
+use lib.ListN.{length, drop}
+use Rattle.card.specs.Text.{text, found, first_line, begins_with, word_in}
 use Rattle.card.specs.Card.{line_says, kinds}
+use Rattle.card.specs.Code.{place_read}
 use Rattle.card.specs.declared.Kind.{Kind}
 use Rattle.card.specs.declared.Kind.TheVariants.{Pixel, Vertex, Geometry}
+use Rattle.card.specs.declared.text.Place.{Place}
+use Rattle.card.specs.declared.text.Place.TheVariants as place
 use Rattle.card.proofs.OfLines.{start_within}
+use Rattle.card.proofs.OfKeys.{ended}
 use Rattle.card.proofs.OfRows.{kinds_told, answer_right, answer_refused, Row, row_there, row_missing, words_all, words-later, words-here, words_none}
 use Rattle.card.proofs.lines.kind_line.Goals as goal
 
 -- the words behind each word
-abbrev behind-gs : List (String × Kind)
-behind-gs = []
+abbrev behind_gs : List (String × Kind)
+behind_gs = []
 
-abbrev behind-vs : List (String × Kind)
-behind-vs = ("gs", Geometry) ∷ behind-gs
+abbrev behind_vs : List (String × Kind)
+behind_vs = ("gs", Geometry) ∷ behind_gs
 
-abbrev behind-ps : List (String × Kind)
-behind-ps = ("vs", Vertex) ∷ behind-vs
+abbrev behind_ps : List (String × Kind)
+behind_ps = ("vs", Vertex) ∷ behind_vs
 
 abbrev key : List ℕ
 key = text "kind" ++ text "="
 
 -- the key is there, and the value behind it
-abbrev bytes : tie.After-known-told → List ℕ
-bytes c = c.before.before.before.before.before.before.args.bytes.now
+module _ (s : List ℕ) {value : ℕ} (v : Row s key 0 value) where
+  -- the line says what it says in the words that are left
+  abbrev Left : List (String × Kind) → Type 0
+  Left ws = line_says s 1 "kind" (word_in kinds) ≡ found (first_line (drop value s)) (word_in ws)
 
-abbrev place : tie.After-known-told → ℕ
-place c = c.before.value.given.0.0
+  -- a word and its line feed were looked for at the value
+  abbrev Looked : String × Kind → Place → Type 0
+  Looked w r = r ≡ place_read (begins_with (ended w) (drop value s)) (value + length (ended w))
 
-value : (c : tie.After-known-told) → Row (bytes c) key 0 (place c)
-value c =
-    let g = c.before.before.before.before.before.before in
-    row_there (bytes c) key 0 g.args.start g.requires refl c.before.before.before.behind.ensures c.before.value.given.1
+  module _ {r : Place} (p : Looked ("ps", Pixel) r) (q : r ≡ place.Wrong) where
+    not_ps : Left behind_ps
+    not_ps = words-later s key 0 v kinds ("ps", Pixel) behind_ps refl (words_all s key 0 v kinds) p q
 
--- the line says what it says in the words that are left
-abbrev Left : tie.After-known-told → List (String × Kind) → Type 0
-Left c ws = line_says (bytes c) 1 "kind" (word_in kinds) ≡ found (first_line (drop (place c) (bytes c))) (word_in ws)
+    module _ {r' : Place} (p' : Looked ("vs", Vertex) r') (q' : r' ≡ place.Wrong) where
+      not_vs : Left behind_vs
+      not_vs = words-later s key 0 v kinds ("vs", Vertex) behind_vs refl not_ps p' q'
 
-left-all : (c : tie.After-known-told) → Left c kinds
-left-all c = words_all (bytes c) key 0 (value c) kinds
-
-not-ps : (c : tie.After-enum-told2) → Left c.before.before.before.before behind-ps
-not-ps c =
-    let t = c.before.before.before.before in
-    words-later (bytes t) key 0 (value t) kinds ("ps", Pixel) behind-ps refl
-    (left-all c.before.before.before.before)
-    c.before.before.behind2.ensures c.enum-told2.given.1
-
-not-vs : (c : tie.After-enum-told3) → Left c.before.before.before.before.before.before.before.before behind-vs
-not-vs c =
-    let t = c.before.before.before.before.before.before.before.before in
-    words-later (bytes t) key 0 (value t) kinds ("vs", Vertex) behind-vs refl
-    (not-ps c.before.before.before.before)
-    c.before.before.behind3.ensures c.enum-told3.given.1
-
-not-gs : (c : tie.After-enum-told4) → Left c.before.before.before.before.before.before.before.before.before.before.before.before behind-gs
-not-gs c =
-    let t = c.before.before.before.before.before.before.before.before.before.before.before.before in
-    words-later (bytes t) key 0 (value t) kinds ("gs", Geometry) behind-gs refl
-    (not-vs c.before.before.before.before)
-    c.before.before.behind4.ensures c.enum-told4.given.1
+      not_gs : {r'' : Place} → Looked ("gs", Geometry) r'' → r'' ≡ place.Wrong → Left behind_gs
+      not_gs p'' q'' = words-later s key 0 v kinds ("gs", Geometry) behind_gs refl not_vs p'' q''
 
 pub behind-requires : goal.behind-requires
-behind-requires c = start_within _ 0 _ c.?requires
+behind-requires c = start_within _ 0 _ c.requires
 
 pub returns-in_default : goal.returns-in_default
 returns-in_default c =
-    let e = row_missing c.?args.bytes.now key 0 c.?args.start c.?requires refl
-    c.behind.ensures (word_in kinds) c.in_default.is in
-    answer_refused kinds_told _ e
+    answer_refused kinds_told _
+    (row_missing c.args.bytes.now key 0 c.args.start c.requires refl c.behind.ensures (word_in kinds) c.in_default.is)
 
 pub behind-requires-2 : goal.behind-requires-2
-behind-requires-2 c = (value ⟪place:After-behind-arg3⟫).within
+behind-requires-2 c = (row_there c.args.bytes.now key 0 c.args.start c.requires refl c.behind.ensures c.in-At.is).within
 
 pub returns-in-At-behind : goal.returns-in-At-behind
 returns-in-At-behind c =
-    let w = words-here (bytes ⟪place:After-behind-arg3⟫) key 0 (value ⟪place:After-behind-arg3⟫) kinds ("ps", Pixel) behind-ps refl
-    (left-all ⟪place:After-behind-arg3⟫)
-    c.behind-2.ensures c.in-At-behind.is in
+    let s = c.args.bytes.now in
+    let v = row_there s key 0 c.args.start c.requires refl c.behind.ensures c.in-At.is in
+    let w = words-here s key 0 v kinds ("ps", Pixel) behind_ps refl (words_all s key 0 v kinds) c.behind-2.ensures c.in-At-behind.is in
     answer_right kinds_told w.0 w.1
 
 pub behind-requires-3 : goal.behind-requires-3
-behind-requires-3 c = (value ⟪place:After-behind-arg4⟫).within
+behind-requires-3 c = (row_there c.args.bytes.now key 0 c.args.start c.requires refl c.behind.ensures c.in-At.is).within
 
 pub returns-in-At-behind-2 : goal.returns-in-At-behind-2
 returns-in-At-behind-2 c =
-    let w = words-here (bytes ⟪place:After-behind-arg4⟫) key 0 (value ⟪place:After-behind-arg4⟫) kinds ("vs", Vertex) behind-vs refl
-    (not-ps ⟪place:After-behind-arg5⟫)
-    c.behind-3.ensures c.in-At-behind-2.is in
+    let s = c.args.bytes.now in
+    let v = row_there s key 0 c.args.start c.requires refl c.behind.ensures c.in-At.is in
+    let l = not_ps s v c.behind-2.ensures c.in_default-behind.is in
+    let w = words-here s key 0 v kinds ("vs", Vertex) behind_vs refl l c.behind-3.ensures c.in-At-behind-2.is in
     answer_right kinds_told w.0 w.1
 
 pub behind-requires-4 : goal.behind-requires-4
-behind-requires-4 c = (value ⟪place:After-behind2⟫).within
+behind-requires-4 c = (row_there c.args.bytes.now key 0 c.args.start c.requires refl c.behind.ensures c.in-At.is).within
 
 pub returns-in-At-behind-3 : goal.returns-in-At-behind-3
 returns-in-At-behind-3 c =
-    let w = words-here (bytes ⟪place:After-behind2⟫) key 0 (value ⟪place:After-behind2⟫) kinds ("gs", Geometry) behind-gs refl
-    (not-vs ⟪place:After-behind-arg7⟫)
-    c.behind-4.ensures c.in-At-behind-3.is in
+    let s = c.args.bytes.now in
+    let v = row_there s key 0 c.args.start c.requires refl c.behind.ensures c.in-At.is in
+    let l = not_vs s v c.behind-2.ensures c.in_default-behind.is c.behind-3.ensures c.in_default-behind-2.is in
+    let w = words-here s key 0 v kinds ("gs", Geometry) behind_gs refl l c.behind-4.ensures c.in-At-behind-3.is in
     answer_right kinds_told w.0 w.1
 
 pub returns : goal.returns
 returns c =
-    answer_refused kinds_told _ (words_none (bytes ⟪place:After-behind2⟫) key 0 (value ⟪place:After-behind2⟫) kinds (not-gs ⟪place:After-enum_told4⟫))
+    let s = c.args.bytes.now in
+    let v = row_there s key 0 c.args.start c.requires refl c.behind.ensures c.in-At.is in
+    let l = not_gs s v c.behind-2.ensures c.in_default-behind.is c.behind-3.ensures c.in_default-behind-2.is c.behind-4.ensures c.in_default-behind-3.is in
+    answer_refused kinds_told _ (words_none s key 0 v kinds l)

@@ -1,12 +1,11 @@
 -- `card::lines::quads_line` meets its contract: a row of the table, as `number_line` reads it. Assumes nothing.
-use borrow.Author.Rules.{rules}
 use mathlib.Core.Path.{refl}
 use Rattle.card.proofs.OfLines.{start_within}
 use Rattle.card.proofs.OfRows.{figure_row}
 use Rattle.card.proofs.lines.quads_line.Goals as goal
 
 pub number_line-requires : goal.number_line-requires
-number_line-requires c = (start_within _ 6 _ c.?requires, refl)
+number_line-requires c = (start_within _ 6 _ c.requires, refl)
 
 pub returns : goal.returns
-returns c = figure_row _ _ 6 _ _ c.?requires c.number_line.ensures
+returns c = figure_row _ _ 6 _ _ c.requires c.number_line.ensures

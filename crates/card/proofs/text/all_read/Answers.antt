@@ -1,23 +1,13 @@
 -- `card::text::all_read` meets its contract: the digits are a number that is allowed, or not. Assumes nothing.
-use borrow.Author.Rules.{rules}
 use mathlib.Core.Path.{sym, ◌∙◌, refl}
 use Rattle.card.proofs.OfRows.{figures_told, answer_right, answer_refused}
 use Rattle.card.proofs.OfNumbers.{digits_under, digits_malformed, digits_right}
 use Rattle.card.proofs.text.all_read.Goals as goal
 
-pub overflow_cast-low : goal.overflow_cast-low
-overflow_cast-low c = search rules
-
 pub returns-then-n-low : goal.returns-then-n-low
 returns-then-n-low c =
     let a = c.args in
     answer_refused figures_told _ (digits_under a.text.now a.count a.n a.limits.low a.limits.high c.requires.digits c.if-n-low.true)
-
-pub well_formed-requires : goal.well_formed-requires
-well_formed-requires c = search rules
-
-pub overflow_cast-value : goal.overflow_cast-value
-overflow_cast-value c = search rules
 
 pub returns-then-well_formed : goal.returns-then-well_formed
 returns-then-well_formed c =

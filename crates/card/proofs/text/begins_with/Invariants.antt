@@ -1,9 +1,7 @@
 -- `card::text::begins_with` meets its contract: i bytes are the key's, and the rests decide. Assumes nothing.
-use borrow.Author.Rules.{rules}
 use Prim.Native.Nat.{◌≤◌, ◌-◌}
-use native.Mathlib.Omega.{arith}
 use lib.ListN.{length}
-use Rattle.card.proofs.OfKeys.{Begun, begun_more, begun_other, begun_all, too_short}
+use Rattle.card.proofs.OfKeys.{Begun}
 use Rattle.card.proofs.text.begins_with.Given as goal
 
 abbrev pub invariant-loop-i : goal.invariant-loop-i

@@ -1,7 +1,6 @@
 -- `card::text::read_number` meets its contract: a number was read, and it is the whole text or not. Assumes nothing.
-use borrow.Author.Rules.{rules}
 use native.Mathlib.Omega.{arith}
-use Rattle.card.proofs.OfNumbers.{whole_refused, whole_is, whole-longer}
+use Rattle.card.proofs.OfNumbers.{whole_refused, whole-longer}
 use Rattle.card.proofs.text.read_number.Goals as goal
 
 pub returns-in_default : goal.returns-in_default

@@ -1,0 +1,28 @@
+-- `codec_for_c::fetch_words::write_vtx_sem` meets its contract: 21 before 20, and the four words. Assumes nothing.
+use Rattle.std.proofs.Common.{ap, not}
+use borrow.Author.Rules.{rules}
+use native.Mathlib.Omega.{arith}
+use lib.ListN.{set}
+use lib.Seq.{lt-length-set}
+use Rattle.codec_for_c.specs.FetchValues.{vtx_sem_in}
+use Rattle.codec_for_c.proofs.OfFetchWords.{no_record, no_room, encodes, four_written, words_fit}
+use Rattle.codec_for_c.proofs.fetch_words.write_vtx_sem.Goals as goal
+
+pub returns-then-not-is_vtx_sem : goal.returns-then-not-is_vtx_sem
+returns-then-not-is_vtx_sem c =
+    let a = c.args in
+    let both = no_record (vtx_sem_in a.values.now) a.part.now c.is_vtx_sem.result c.is_vtx_sem.ensures (ap not c.if-not-is_vtx_sem.true) in
+    record { value = both.0; part_after = both.1 }
+
+pub returns-then-part-lt4 : goal.returns-then-part-lt4
+returns-then-part-lt4 c =
+    let a = c.args in
+    let both = no_room (vtx_sem_in a.values.now) a.part.now c.is_vtx_sem.result c.is_vtx_sem.ensures (ap not c.if-not-is_vtx_sem.false) c.if-part-lt4.true in
+    record { value = both.0; part_after = both.1 }
+
+pub returns : goal.returns
+returns c =
+    let a = c.args in
+    let both = four_written (vtx_sem_in a.values.now) a.part.now c.is_vtx_sem.result c.is_vtx_sem.ensures _ _ _ (ap not c.if-not-is_vtx_sem.false) (omega arith)
+    c.vtx_word0.ensures c.vtx_sem.ensures c.vtx_word2.ensures in
+    record { value = both.0; part_after = both.1 }

@@ -1,0 +1,23 @@
+-- `codec_for_c::rows::write_export` meets its contract: there is room for the longest form or not. Assumes nothing.
+use borrow.Author.Rules.{rules}
+use mathlib.Core.Path.{ap, ◌∙◌}
+use native.Mathlib.Omega.{arith}
+use Rattle.formats.specs.Export as format
+use Rattle.codec_for_c.specs.Values.{written, export_values}
+use Rattle.codec_for_c.proofs.OfCodec.{write_short, write_all}
+use Rattle.codec_for_c.proofs.rows.write_export.Goals as goal
+
+pub returns-then-room-lt-ROW : goal.returns-then-room-lt-ROW
+returns-then-room-lt-ROW c =
+    let a = c.args in
+    let both = write_short (export_values (format.word0_of a.low) (format.word1_of a.high)) a.values.now (omega arith) in
+    record { value = both.0; values_after = both.1 }
+
+pub returns : goal.returns
+returns c =
+    let a = c.args in
+    let both = write_all (export_values (format.word0_of a.low) (format.word1_of a.high)) a.values.now _ (omega arith)
+    (c.put.ensures
+    ∙ ap (λ row. written row a.values.now)
+    (c.export_row.ensures ∙ (λ i. export_values (c.read_word0-a.ensures i) (c.read_word1-b.ensures i)))) in
+    record { value = both.0; values_after = both.1 }

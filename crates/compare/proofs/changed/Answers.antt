@@ -1,0 +1,16 @@
+-- `compare::changed` meets its contract: the two counts are those of the definition, and the part starts so many words of four bytes
+-- behind the newer's first. Assumes nothing.
+use borrow.Author.Rules.{rules}
+use native.Mathlib.Omega.{arith}
+use lib.ListN.{length-take, length-drop}
+use Rattle.laws.proofs.OfLists.{to_the_end}
+use Rattle.compare.proofs.OfChanged.{part_words, part_place}
+use Rattle.compare.proofs.changed.Goals as goal
+
+pub returns : goal.returns
+returns c =
+    let beginning = c.common_beginning-start.ensures.value in
+    record {
+      result_value = part_words _ _ _ _ beginning c.common_ending-ending.ensures.value;
+      ref_ptr_value = part_place c.args.newer _ _ beginning;
+    }

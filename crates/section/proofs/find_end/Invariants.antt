@@ -1,0 +1,14 @@
+-- `section::find_end` meets its contract. The loop's invariant: the end is the first one from here on. Assumes nothing.
+use mathlib.Core.Path.{◌≡◌, sym, ◌∙◌}
+use Prim.Native.Nat.{◌-◌, ◌≤◌}
+use native.Mathlib.Omega.{arith}
+use borrow.Author.Tests.{ltb-false}
+use Rattle.section.specs.Control.{end_from, end_of}
+use Rattle.section.proofs.OfEnd.{is_searched, high_word_of, next_pair, end_first, end-found, end-next, end_none}
+use Rattle.section.proofs.find_end.Given as goal
+
+abbrev pub invariant-loop-p : goal.invariant-loop-p
+invariant-loop-p l = (l.p.0 ≤ l.pairs.0) × (end_from l.words l.p.0 (l.pairs.0 - l.p.0) ≡ end_of l.words)
+
+abbrev pub decreases-loop-p : goal.decreases-loop-p
+decreases-loop-p l = l.pairs.0 - l.p.0
