@@ -1,4 +1,6 @@
 // Rules 10 to 15 on an ALU clause, group by group: document 01, "Groups of ALU slots".
+#![tactic(auto)]
+
 ghost use Rattle.std.specs.Prelude.{◌≡◌, true, length};
 ghost use Rattle.checks.specs.Checks.{first_broken};
 ghost use Rattle.checks.specs.declared.Place.TheVariants.{Quadword};

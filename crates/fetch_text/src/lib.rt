@@ -1,5 +1,7 @@
 // Fetches as text, for people who edit by hand: the fields of a fetch as lines NAME=number, with AMD's names, and a fetch edited by such
 // lines. Both stand on rows of values, as crate codec_for_c has them.
+#![tactic(auto)]
+
 mod keys;
 mod rows;
 
