@@ -1,8 +1,8 @@
 // Standard input, and files by the arguments that name them. What can't be read is told on standard error, and never taken for the end of a file.
-ghost use Rattle.std.specs.Prelude.{◌≡◌, ◌<◌, ◌≤◌, IfOk, length, take};
+ghost use Rattle.std.specs.Prelude.{◌≡◌, ◌<◌, ◌≤◌, IfOk, OnErr, length, take};
 ghost use Rattle.std.specs.Counts.{IsPrefixLen};
 ghost use Rattle.std.specs.Io.KnownBytes.{Consumes, IsAtEnd};
-ghost use Rattle.console.specs.Files.{Within, ReadFrom, bytes_of, is_failed};
+ghost use Rattle.console.specs.Files.{Within, GaveSome, ReadFrom, bytes_of, is_failed};
 
 use std::env::FillError;
 use std::fmt::InlineText;
@@ -114,6 +114,7 @@ pub fn read_all<R: Read>(file: &mut R, room: &mut [u8]) -> io::Result<usize>
     ensures within { IfOk result (λ n. n ≤ length room.new) }
     ensures bytes { IfOk result (λ n. Consumes (R.remaining file.old) (R.remaining file.new) (take n room.new)) }
     ensures end { IfOk result (λ n. n < length room.new → IsAtEnd (R.remaining file.new)) }
+    ensures err { OnErr result (GaveSome (R.remaining file.old) (R.remaining file.new) room.new) }
 {
     let mut done = 0;
     while done < room.len() {
