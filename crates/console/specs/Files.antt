@@ -1,7 +1,7 @@
 -- Files read into a room. What a file gives is for the system to say: of one only how much of the room it takes is said here; of a reader whose
 -- bytes are known, that they stand in the room.
 use Rattle.std.specs.Prelude.{ℕ, ◌<◌, ◌≤◌, min, Bool, true, false, Option, List, length, take}
-use Rattle.std.specs.Io.KnownBytes.{Consumes, IsAtEnd}
+use Rattle.std.specs.Io.KnownBytes.{Keeps, Consumes, IsAtEnd}
 use Rattle.std.specs.Counts.{IsPrefixLen}
 use Rattle.console.specs.declared.files.FileRead.{FileRead}
 use Rattle.console.specs.declared.files.FileRead.TheVariants.{Failed, Bytes}
@@ -19,6 +19,11 @@ GaveSome old new room = (n : ℕ) × (n ≤ length room) × Consumes old new (ta
 abbrev pub ReadFrom : Option (List ℕ) → Option (List ℕ) → FileRead → List ℕ → Type 0
 ReadFrom old new Failed room = GaveSome old new room
 ReadFrom old new (Bytes n) room = Consumes old new (take n room) × (n < length room → IsAtEnd new)
+
+-- nothing is told where a file was read
+abbrev pub IsSilent : FileRead → Option (List ℕ) → Option (List ℕ) → Type 0
+IsSilent Failed old new = Unit {0}
+IsSilent (Bytes n) old new = Keeps old new
 
 -- so many of a room of that length
 abbrev pub bytes_of : FileRead → ℕ → ℕ

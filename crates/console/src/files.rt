@@ -2,11 +2,11 @@
 ghost use Rattle.std.specs.Prelude.{◌≡◌, ◌<◌, ◌≤◌, IfOk, OnErr, length, take};
 ghost use Rattle.std.specs.Counts.{IsPrefixLen};
 ghost use Rattle.std.specs.Io.KnownBytes.{Consumes, IsAtEnd};
-ghost use Rattle.console.specs.Files.{Within, GaveSome, ReadFrom, bytes_of, is_failed};
+ghost use Rattle.console.specs.Files.{Within, GaveSome, ReadFrom, IsSilent, bytes_of, is_failed};
 
 use std::env::FillError;
 use std::fmt::InlineText;
-use std::io::{Error, ErrorKind, Read};
+use std::io::{Error, ErrorKind, Read, Write};
 use std::rt::{Env, Files};
 use std::{fs, io, str};
 use units::smaller;
@@ -27,14 +27,15 @@ pub enum FileRead {
 }
 
 // Reads standard input until it ends or the room is full. What fails is told.
-pub fn read_input<R: Read>(
+pub fn read_input<R: Read, E: Write>(
     input: &mut R,
-    errors: &impl Print,
+    errors: &mut E,
     tool: Tool,
     room: &mut [u8],
 ) -> FileRead
     ensures within { Within result room.new }
     ensures bytes { ReadFrom (R.remaining input.old) (R.remaining input.new) result room.new }
+    ensures silent { IsSilent result (E.contents errors.old) (E.contents errors.new) }
 {
     match read_all(input, room) {
         Ok(n) => FileRead::Bytes(n),
@@ -46,14 +47,15 @@ pub fn read_input<R: Read>(
 }
 
 // Reads the file that argument i names, until it ends or the room is full. What fails is told.
-pub fn read_argument(
+pub fn read_argument<E: Write>(
     rt: &(impl Env + Files),
-    errors: &impl Print,
+    errors: &mut E,
     tool: Tool,
     i: usize,
     room: &mut [u8],
 ) -> FileRead
-    ensures { Within result room.new }
+    ensures within { Within result room.new }
+    ensures silent { IsSilent result (E.contents errors.old) (E.contents errors.new) }
 {
     let mut path = [0u8; 4096];
     let n = match rt.arg(i, &mut path) {
@@ -141,7 +143,7 @@ const EINVAL: i32 = 22;
 const ENAMETOOLONG: i32 = 36;
 
 // Writes a line to standard error: what failed, and the system's reason. Where that can't be written it is lost.
-pub(crate) fn tell(errors: &impl Print, tool: Tool, what: &[u8], reason: Error) {
+pub(crate) fn tell(errors: &mut impl Write, tool: Tool, what: &[u8], reason: Error) {
     say(errors, name_of(tool).as_bytes());
     say(errors, b": ");
     say(errors, what);
@@ -151,7 +153,7 @@ pub(crate) fn tell(errors: &impl Print, tool: Tool, what: &[u8], reason: Error) 
     say(errors, b"\n");
 }
 
-fn say(errors: &impl Print, text: &[u8]) {
+fn say(errors: &mut impl Write, text: &[u8]) {
     let _ = errors.write_all(text);
 }
 

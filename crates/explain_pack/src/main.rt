@@ -5,13 +5,13 @@
 use console::Tool;
 
 fn main(rt: HostRuntime) {
-    let errors = rt.stderr();
+    let mut errors = rt.stderr();
     let mut bytes = console::input_room();
-    let read = console::read_input(&mut rt.stdin(), &errors, Tool::Explain, &mut bytes);
+    let read = console::read_input(&mut rt.stdin(), &mut errors, Tool::Explain, &mut bytes);
     if console::is_failed(read) {
         return;
     }
     let n = console::bytes_read(read, &bytes);
     let mut lines = console::explanation_room();
-    console::explain_on(&rt.stdout(), &errors, &bytes[..n], &mut lines);
+    console::explain_on(&mut rt.stdout(), &mut errors, &bytes[..n], &mut lines);
 }

@@ -34,7 +34,7 @@ fn main(rt: HostRuntime) {
         return;
     };
     let mut pack = console::pack_room();
-    let read = console::read_argument(&rt, &errors, Tool::Fetch, 3, &mut pack);
+    let read = console::read_argument(&rt, &mut rt.stderr(), Tool::Fetch, 3, &mut pack);
     if console::is_failed(read) {
         return;
     }

@@ -5,13 +5,13 @@
 use console::Tool;
 
 fn main(rt: HostRuntime) {
-    let errors = rt.stderr();
+    let mut errors = rt.stderr();
     let mut bytes = console::input_room();
-    let read = console::read_input(&mut rt.stdin(), &errors, Tool::Judge, &mut bytes);
+    let read = console::read_input(&mut rt.stdin(), &mut errors, Tool::Judge, &mut bytes);
     if console::is_failed(read) {
         return;
     }
     let n = console::bytes_read(read, &bytes);
     let mut report = console::report_room();
-    console::report_on(&rt.stdout(), &errors, &bytes[..n], &mut report);
+    console::report_on(&mut rt.stdout(), &mut errors, &bytes[..n], &mut report);
 }

@@ -8,7 +8,7 @@
 ghost use Rattle.std.specs.Prelude.{◌<◌};
 
 use std::io;
-use std::io::Read;
+use std::io::{Read, Write};
 
 const HEADER: usize = 43;
 
@@ -35,8 +35,8 @@ fn length_in(header: &[u8]) -> usize {
 // Reads so many bytes as `bytes` has room for, judges them and explains the answer if asked.
 fn judge_next(
     input: &mut impl Read,
-    output: &impl Print,
-    errors: &impl Print,
+    output: &mut impl Write,
+    errors: &mut impl Write,
     bytes: &mut [u8],
     room: &mut [u8],
     explained: bool,
@@ -52,8 +52,8 @@ fn judge_next(
 // Judges the case that comes next, and answers whether there was one.
 fn next_case(
     input: &mut impl Read,
-    output: &impl Print,
-    errors: &impl Print,
+    output: &mut impl Write,
+    errors: &mut impl Write,
     bytes: &mut [u8],
     room: &mut [u8],
 ) -> io::Result<bool> {
@@ -73,8 +73,8 @@ fn next_case(
 
 fn run(
     input: &mut impl Read,
-    output: &impl Print,
-    errors: &impl Print,
+    output: &mut impl Write,
+    errors: &mut impl Write,
     bytes: &mut [u8],
     room: &mut [u8],
 ) -> io::Result<()> {
@@ -91,8 +91,8 @@ fn main(rt: HostRuntime) -> io::Result<()> {
     let mut room = console::explanation_room();
     run(
         &mut rt.stdin(),
-        &rt.stdout(),
-        &rt.stderr(),
+        &mut rt.stdout(),
+        &mut rt.stderr(),
         &mut bytes,
         &mut room,
     )
