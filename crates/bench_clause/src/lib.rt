@@ -1,6 +1,8 @@
 // Rules 10 to 15 on one ALU clause, for bench/ alone, which compares and times them beside plain Rust (`rt staticlib bench_clause`).
 //
 // No part of the product: rule 6 is not asked here, so a clause outside of the words answers 0, as one that breaks nothing does.
+#![tactic(auto)]
+
 ghost use Rattle.std.specs.Prelude.{◌≡◌, not, eqb};
 ghost use Rattle.units.specs.Units as counts;
 ghost use Rattle.checks.specs.Checks.{first_broken};

@@ -1,6 +1,8 @@
 // Why a pack is refused, by value: the judge's verdict, and for rules 9 and 15 the number found and the limit.
 //
 // The judge is asked first and nothing is judged twice: of a refused pack two control-flow words and two of an instruction are read again.
+#![tactic(auto)]
+
 ghost use Rattle.std.specs.Prelude.{◌≡◌};
 ghost use Rattle.checks.specs.declared.Verdict.TheVariants.{Refused};
 ghost use Rattle.input.specs.Words.{words_in};

@@ -1,5 +1,7 @@
 // A fetch of a pack in bytes, as a file has it: shown as text, and edited. Both load the pack's words into room of this crate's own; an edit
 // stores them again where nothing is wrong.
+#![tactic(auto)]
+
 ghost use Rattle.std.specs.Prelude.{◌≡◌, ◌/◌, ◌%◌, ◌≤◌, length};
 ghost use Rattle.fetch_codec.specs.Buffer.{decode_of};
 ghost use Rattle.fetch_text.specs.Text.{shown_of, shown_after};

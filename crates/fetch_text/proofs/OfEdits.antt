@@ -2,7 +2,7 @@
 use mathlib.Core.Path.{◌≡◌, refl, sym, ap, ◌∙◌}
 use mathlib.Core.List.{List, [], ◌∷◌}
 use mathlib.Core.Option.{Option, none, some}
-use Prim.Native.Nat.{ℕ, suc, ◌+◌, ◌-◌, ◌≤◌, ◌<◌}
+use Prim.Native.Nat.{ℕ, suc, ◌+◌, ◌≤◌, ◌<◌}
 use native.Mathlib.Omega.{arith}
 use lib.ListN.{length, take, drop, set, length-drop, drop_of_length-le}
 use lib.Seq.{drop-drop, length-take-le}
@@ -15,7 +15,6 @@ use Rattle.settings.specs.declared.Setting.{Setting}
 use Rattle.settings.specs.declared.Setting.TheVariants.{NoName, NoNumber, Is}
 use Rattle.settings.specs.Setting.{setting_of, changed_to, changed, changed_by}
 use Rattle.settings.proofs.OfReading.{index_within}
-use Rattle.fetch_codec.specs.declared.Fetch.{Fetch}
 use Rattle.codec_for_c.specs.FetchValues.{fetch_in}
 use Rattle.fetch_text.specs.declared.Fault.{Fault}
 use Rattle.fetch_text.specs.declared.Fault.TheVariants as fault
@@ -23,8 +22,8 @@ use Rattle.fetch_text.specs.declared.rows.RowSet.{RowSet}
 use Rattle.fetch_text.specs.declared.rows.RowSet.TheVariants as one
 use Rattle.fetch_text.specs.declared.rows.RowEdit.TheVariants as all
 use Rattle.fetch_text.specs.Text.{keys_of, values_of}
-use Rattle.fetch_text.specs.Edit.{lines_in, fault_of, or_later, first_fault, edited}
-use Rattle.fetch_text.specs.Code.{Holds, HoldsFor, row_set, row_edit, NumberPut, SettingPut, AllPut}
+use Rattle.fetch_text.specs.Edit.{lines_in, fault_of, or_later, first_fault}
+use Rattle.fetch_text.specs.Code.{HoldsFor, row_set, row_edit, NumberPut, SettingPut, AllPut}
 use Rattle.fetch_text.proofs.OfForms.{form, keys_same, fault_same, keys_count, fetch_itself}
 use Rattle.fetch_text.proofs.OfLines.{first_line_lem}
 use Rattle.fetch_text.proofs.OfRows.{set_form, set_values}

@@ -2,17 +2,17 @@
 -- are a fetch's; and one of them changed is within its width or not. Assumes nothing.
 use mathlib.Core.Path.{◌≡◌, refl, sym, ap, ◌∙◌}
 use mathlib.Core.Bool.{Bool, true, false, ◌&&◌, and-true}
-use mathlib.Core.List.{List, [], ◌∷◌, ◌++◌, map, append-nil}
+use mathlib.Core.List.{List, [], ◌∷◌, ◌++◌, map}
 use mathlib.Core.Option.{none, some}
 use Prim.Native.String.{String}
-use Prim.Native.Nat.{ℕ, zero, suc, ◌+◌, ◌-◌, ◌^◌, ◌≤◌, ◌<◌}
+use Prim.Native.Nat.{ℕ, zero, suc, ◌-◌, ◌^◌, ◌≤◌, ◌<◌}
 use native.Mathlib.Omega.{arith}
 use lib.Dec.{eqb, ltb}
 use lib.ListN.{length, get_or, drop, set, length-append, length-set, drop_of_length-le}
 use borrow.Author.Tests.{eq-eqb, ne_eqb, eqb-true}
 use Rattle.laws.proofs.OfTests.{both, by_test_lem}
 use Rattle.laws.proofs.OfCases.{impossible}
-use Rattle.bits.specs.Tables.{within, fits_table}
+use Rattle.bits.specs.Tables.{within}
 use Rattle.bits.specs.Fields.{width_of}
 use Rattle.formats.specs.Fields.{Field, position, FETCH_INST}
 use Rattle.formats.specs.Tex as tex

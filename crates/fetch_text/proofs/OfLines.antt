@@ -1,14 +1,13 @@
 -- The lines of a text one by one, as a loop finds them; and the text of a fetch has a line for each field. Assumes nothing.
-use mathlib.Core.Path.{◌≡◌, refl, sym, ap, ◌∙◌}
+use mathlib.Core.Path.{◌≡◌, refl, ap, ◌∙◌}
 use mathlib.Core.Bool.{Bool, true, false, not, ◌&&◌}
 use mathlib.Core.List.{List, [], ◌∷◌, ◌++◌, append_assoc}
-use Prim.Native.Nat.{ℕ, suc, ◌+◌, ◌≤◌, ◌<◌}
+use Prim.Native.Nat.{ℕ, suc, ◌<◌}
 use native.Mathlib.Omega.{arith}
-use native.Mathlib.Numerals.{add-one}
 use lib.Dec.{eqb}
 use lib.ListN.{length, take, drop}
 use borrow.Author.Tests.{not-true}
-use Rattle.laws.proofs.OfTests.{both, both_hold, by_test_lem}
+use Rattle.laws.proofs.OfTests.{both, by_test_lem}
 use Rattle.ascii.specs.Ascii.{ascii, line_feed}
 use Rattle.ascii.specs.Decimal.{decimal}
 use Rattle.ascii.specs.Code.{feedless}

@@ -1,17 +1,16 @@
 -- What `edit_fetch` promises, by what became of its row; and that the text of a fetch, read back, is that fetch. Assumes nothing.
 use mathlib.Core.Path.{◌≡◌, refl, sym, ap, ◌∙◌, subst}
-use mathlib.Core.Bool.{Bool, true, false, not, ◌&&◌}
+use mathlib.Core.Bool.{Bool, true, ◌&&◌}
 use mathlib.Core.List.{List, [], ◌∷◌, ◌++◌}
 use mathlib.Core.Option.{Option, none, some}
 use Prim.Native.Nat.{ℕ, zero, suc, ◌+◌, ◌*◌, ◌^◌, ◌≤◌, ◌<◌}
 use native.Mathlib.Omega.{arith}
 use native.Mathlib.Nat.{pow-le-pow_right}
-use lib.Dec.{eqb, ltb, leb}
+use lib.Dec.{leb}
 use lib.ListN.{length, get_or, length-append}
 use borrow.Author.Tests.{lt-ltb, leb-true, ne_eqb}
 use Rattle.laws.proofs.OfTests.{both, by_test_lem}
 use Rattle.laws.proofs.OfCases.{impossible}
-use Rattle.bits.specs.Tables.{within}
 use Rattle.opcodes.specs.declared.cf.FetchKind.{FetchKind}
 use Rattle.opcodes.specs.declared.cf.FetchKind.TheVariants.{Vertex, Texture}
 use Rattle.formats.specs.Fields.{◌of◌, FETCH_INST}
@@ -24,7 +23,6 @@ use Rattle.ascii.specs.Ascii.{ascii}
 use Rattle.ascii.specs.Decimal.{decimal}
 use Rattle.ascii.proofs.OfDecimal.{fewer_digits}
 use Rattle.report.specs.Settings.{setting_lines, settings_text}
-use Rattle.settings.specs.declared.Setting.{Setting}
 use Rattle.settings.specs.declared.Setting.TheVariants.{Is}
 use Rattle.settings.specs.Setting.{setting_of, changed_by}
 use Rattle.settings.specs.ReadBack.{good_keys}
@@ -38,7 +36,7 @@ use Rattle.fetch_codec.specs.declared.FetchDecoded.TheVariants.{Outside, NotTake
 use Rattle.fetch_codec.specs.Fetch.{kind_of, form_kind, fetch_of, vertex_of, fields_fit, takes_number, form_taken, encodable}
 use Rattle.fetch_codec.specs.Buffer.{room, four_of, decode_of, encode_answer, encode_words, write_answer}
 use Rattle.fetch_codec.proofs.RoundTrip.{record_again_at}
-use Rattle.codec_for_c.specs.FetchValues.{fetch_values, fetch_in, is_fetch, fetch_after, fetch_words}
+use Rattle.codec_for_c.specs.FetchValues.{fetch_in, fetch_after, fetch_words}
 use Rattle.codec_for_c.proofs.OfValues.{within_at}
 use Rattle.fetch_text.specs.declared.Fault.{Fault}
 use Rattle.fetch_text.specs.declared.Edit.{Edit}

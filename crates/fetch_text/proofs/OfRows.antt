@@ -1,13 +1,13 @@
 -- Rows of a fetch's values: what stands in them, as the decoder leaves them, and what the encoder says of them. Assumes nothing.
 use mathlib.Core.Path.{◌≡◌, refl, sym, ap, ◌∙◌}
-use mathlib.Core.Bool.{Bool, true, false, cond, ◌&&◌}
+use mathlib.Core.Bool.{true, false}
 use mathlib.Core.List.{List, [], ◌∷◌, ◌++◌}
 use mathlib.Core.Option.{some}
 use Prim.Native.Nat.{ℕ, suc, ◌+◌, ◌^◌, ◌≤◌, ◌<◌}
 use native.Mathlib.Numerals.{add-one}
 use native.Mathlib.Omega.{arith}
 use lib.Dec.{ltb}
-use lib.ListN.{length, get_or, drop, set, length-append, length-drop, length-set}
+use lib.ListN.{length, drop, set, length-append, length-drop, length-set}
 use lib.Seq.{set-append_left, get_or-set_other}
 use Rattle.laws.proofs.OfTests.{by_test_lem}
 use Rattle.laws.proofs.OfCases.{impossible}
@@ -31,8 +31,8 @@ use Rattle.fetch_codec.specs.declared.FetchDecoded.TheVariants.{Outside, NotTake
 use Rattle.fetch_codec.specs.Fetch.{encodable}
 use Rattle.fetch_codec.specs.Buffer.{decode_of, encode_answer, write_answer, room}
 use Rattle.fetch_codec.proofs.RoundTrip.{done_fits}
-use Rattle.codec_for_c.specs.Values.{form_of, roomy, row_length, written}
-use Rattle.codec_for_c.specs.FetchValues.{fetch_values, fetch_in, is_fetch, clause_number, clause_numbered, is_clause, fetch_verdict, fetch_after, fetch_number, fetch_row, fetch_from, fetch_from_number, FetchWordsAgain}
+use Rattle.codec_for_c.specs.Values.{form_of, roomy, written}
+use Rattle.codec_for_c.specs.FetchValues.{fetch_values, fetch_in, is_fetch, clause_number, fetch_verdict, fetch_after, fetch_number, fetch_row, fetch_from, fetch_from_number}
 use Rattle.codec_for_c.proofs.OfValues.{done_with}
 use Rattle.codec_for_c.proofs.OfFetches.{known_clause, fetch_of_values, values_of_fetch}
 use Rattle.settings.specs.declared.Setting.TheVariants.{Is}

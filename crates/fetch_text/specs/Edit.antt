@@ -1,7 +1,7 @@
 -- A fetch edited by settings NAME=number, a line each: document 02, request 2, for people who edit by hand. Where one of the settings is wrong
 -- nothing is changed, and the first that is wrong is named; else they are put into the fetch one after the other, so of two for one field the
 -- last counts.
-use Rattle.std.specs.Prelude.{ℕ, ◌+◌, ◌^◌, ◌≡◌, Bool, true, cond, not, ◌&&◌, List, [], ◌∷◌, eqb, ltb, length, get_or}
+use Rattle.std.specs.Prelude.{ℕ, ◌+◌, ◌^◌, ◌≡◌, true, cond, not, ◌&&◌, List, [], ◌∷◌, eqb, ltb, length, get_or}
 use Rattle.std.proofs.Math.Option.{Option, none, some}
 use Rattle.units.specs.declared.Words.{Words}
 use Rattle.ascii.specs.Ascii.{line_feed}

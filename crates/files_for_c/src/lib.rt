@@ -1,5 +1,7 @@
 // The judge on files for C and Rust to link, by `rt staticlib files_for_c`: a card and a pack as bytes, as `judge_files` reads them. A verdict
 // comes back as one number (crate judge_for_c, specs/Packed.antt).
+#![tactic(auto)]
+
 ghost use Rattle.std.specs.Prelude.{◌≡◌, cond};
 ghost use Rattle.input.specs.Input.{judged_of_files};
 ghost use Rattle.files_for_c.specs.Files.{packed_answer, FilesRead};

@@ -2,6 +2,8 @@
 //
 // The pack's words are read off the bytes once, into room of this crate's own, and judged there: a caller lends nothing but the
 // buffer for the report.
+#![tactic(auto)]
+
 ghost use Rattle.std.specs.Prelude.{◌≡◌, ◌++◌, ℕ, ◌/◌, ◌≤◌, length, take};
 ghost use Rattle.units.specs.Units as counts;
 ghost use Rattle.checks.specs.declared.Verdict.TheVariants.{Refused};

@@ -2,6 +2,8 @@
 //
 // Document 01, "Numbers and what they mean": the checks in their order, of which the first broken one is the answer. Nothing is copied;
 // the stack before each place of the section is kept as two numbers (crate `walk`), and of the clauses where they end (crate `apart`).
+#![tactic(auto)]
+
 ghost use Rattle.std.specs.Prelude.{◌≡◌, suc};
 ghost use Rattle.checks.specs.Checks.{first_broken, below};
 ghost use Rattle.checks.specs.declared.Verdict.TheVariants.{Accepted, Refused};

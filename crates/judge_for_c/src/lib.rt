@@ -2,6 +2,8 @@
 // itself and joins them to one archive (docs/DECISIONS.md, "One archive for C").
 //
 // A slice is passed as a pointer and a length. A verdict comes back as one number (specs/Packed.antt).
+#![tactic(auto)]
+
 ghost use Rattle.std.specs.Prelude.{◌≡◌};
 ghost use Rattle.judge.specs.Judge.{judgement_of_bytes};
 ghost use Rattle.judge.specs.Safe.{SafelyRead};

@@ -1,9 +1,8 @@
 -- `fetch_text::write_fetch` meets its contract: there is a fetch, whose text is written, or not. Assumes nothing.
 use borrow.Author.Rules.{rules}
 use mathlib.Core.Path.{sym, ◌∙◌}
-use native.Mathlib.Omega.{arith}
 use Rattle.fetch_codec.specs.Buffer.{decode_of}
-use Rattle.fetch_text.proofs.OfRows.{shown_outside, shown_not_taken, shown_taken}
+use Rattle.fetch_text.proofs.OfRows.{shown_taken}
 use Rattle.fetch_text.proofs.write_fetch.Goals as goal
 
 pub returns-in-Taken : goal.returns-in-Taken

@@ -1,5 +1,4 @@
 -- `fetch_text::rows::edit_row` meets its contract: the keys are those of the row's form. Assumes nothing.
-use borrow.Author.Rules.{rules}
 use mathlib.Core.Path.{refl, sym, ◌∙◌}
 use Rattle.formats.specs.Tex as tex
 use Rattle.formats.specs.Vtx as vtx
@@ -26,4 +25,4 @@ unfolding pieces_of vtx.word0_fields vtx.sem_fields vtx.word2_fields
 set_lines-requires-2 c =
     let row = c.args.row.now in
     let form_is = form_of_row row c.requires.is_a_fetch in
-    record { holds = c.requires; own = sem_keys refl (fetch_in row) (λ e. c.if-form-eq6.false (form_is ∙ e)) (λ e. c.if-form-eq6.false (form_is ∙ e)) }
+    record { holds = c.requires; own = sem_keys refl (fetch_in row) (λ e. c.if-form-eq5.false (form_is ∙ e)) (λ e. c.if-form-eq6.false (form_is ∙ e)) }

@@ -1,9 +1,6 @@
 -- `fetch_text::rows::line_end` meets its contract. The loop's invariant: no line feed was passed. Assumes nothing.
-use borrow.Author.Rules.{rules}
-use Prim.Native.Nat.{◌-◌}
 use native.Mathlib.Omega.{arith}
-use lib.ListN.{length}
-use Rattle.card.proofs.OfLines.{end_within, Passed, passed_none, passed_more, passed_here, passed_all}
+use Rattle.card.proofs.OfLines.{end_within, passed_more, passed_here, passed_all}
 use Rattle.fetch_text.proofs.rows.line_end.Goals as goal
 
 pub returns-then-text-end-eq10 : goal.returns-then-text-end-eq10

@@ -1,9 +1,7 @@
 -- `fetch_text::rows::line_end` meets its contract. The loop's invariant: no line feed was passed. Assumes nothing.
-use borrow.Author.Rules.{rules}
 use Prim.Native.Nat.{◌-◌}
-use native.Mathlib.Omega.{arith}
 use lib.ListN.{length}
-use Rattle.card.proofs.OfLines.{end_within, Passed, passed_none, passed_more, passed_here, passed_all}
+use Rattle.card.proofs.OfLines.{Passed}
 use Rattle.fetch_text.proofs.rows.line_end.Given as goal
 
 abbrev pub invariant-loop-end : goal.invariant-loop-end

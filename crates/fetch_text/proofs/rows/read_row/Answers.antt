@@ -1,7 +1,6 @@
 -- `fetch_text::rows::read_row` meets its contract: the decoder's number tells what stands there. Assumes nothing.
 use borrow.Author.Rules.{rules}
 use Rattle.fetch_codec.specs.Buffer.{decode_of}
-use Rattle.codec_for_c.specs.FetchValues.{FetchWordsAgain}
 use Rattle.fetch_text.proofs.OfRows.{row_outside, row_not_taken, row_taken, after_long, row_holds, not_outside, not_not_taken}
 use Rattle.fetch_text.proofs.rows.read_row.Goals as goal
 

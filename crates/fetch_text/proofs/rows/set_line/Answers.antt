@@ -1,5 +1,4 @@
 -- `fetch_text::rows::set_line` meets its contract: what was read is no setting, or a number for a field. Assumes nothing.
-use borrow.Author.Rules.{rules}
 use Rattle.fetch_text.proofs.OfEdits.{put_no_name, put_no_number, index-inside, put-number}
 use Rattle.fetch_text.proofs.rows.set_line.Goals as goal
 

@@ -1,5 +1,4 @@
 -- `fetch_text::rows::set_value` meets its contract: the encoder's number tells whether something is wrong, and the field what. Assumes nothing.
-use borrow.Author.Rules.{rules}
 use native.Mathlib.Omega.{arith}
 use mathlib.Core.Path.{sym, ◌∙◌}
 use Rattle.codec_for_c.specs.FetchValues.{fetch_in}

@@ -1,7 +1,5 @@
 -- `fetch_text::rows::write_row` meets its contract: the keys are those of the row's form. Assumes nothing.
-use borrow.Author.Rules.{rules}
 use mathlib.Core.Path.{refl, sym, ◌∙◌}
-use native.Mathlib.Omega.{arith}
 use Rattle.formats.specs.Tex as tex
 use Rattle.formats.specs.Vtx as vtx
 use Rattle.report.specs.Report.{pieces_of}
@@ -31,5 +29,5 @@ unfolding pieces_of vtx.word0_fields vtx.sem_fields vtx.word2_fields
 returns c =
     let row = c.args.row.now in
     let form_is = form_of_row row c.requires.is_a_fetch in
-    let both = row_written row c.requires (sem_keys refl (fetch_in row) (λ e. c.if-form-eq6.false (form_is ∙ e)) (λ e. c.if-form-eq6.false (form_is ∙ e))) c.args.out.now (c.write_settings-2.ensures.value, c.write_settings-2.ensures.out_after) in
+    let both = row_written row c.requires (sem_keys refl (fetch_in row) (λ e. c.if-form-eq5.false (form_is ∙ e)) (λ e. c.if-form-eq6.false (form_is ∙ e))) c.args.out.now (c.write_settings-2.ensures.value, c.write_settings-2.ensures.out_after) in
     record { value = both.0; out_after = both.1 }

@@ -1,0 +1,26 @@
+-- `fetch_pack::edit_fetch` meets its contract, by the pack's length. Assumes nothing.
+use borrow.Author.Rules.{rules}
+use mathlib.Core.Path.{ap, ◌∙◌}
+use native.Mathlib.Omega.{arith}
+use Rattle.fetch_pack.specs.declared.PackEdit.TheVariants.{Is}
+use Rattle.fetch_pack.proofs.OfPack.{too_long, not_whole, whole, not_is_long, not_is_partial, words_promised}
+use Rattle.fetch_pack.proofs.edit_fetch.Goals as goal
+
+pub returns-then-length-gt-LONGEST : goal.returns-then-length-gt-LONGEST
+returns-then-length-gt-LONGEST c =
+    let pack = c.args.pack.now in
+    record { value = too_long pack _ _ _ (omega arith); pack_after = too_long pack _ _ _ (omega arith); pack_promised = not_is_long _ _ _ _ }
+
+pub returns-then-length-ne0 : goal.returns-then-length-ne0
+returns-then-length-ne0 c =
+    let pack = c.args.pack.now in
+    record { value = not_whole pack _ _ _ (omega arith) c.if-length-ne0.true; pack_after = not_whole pack _ _ _ (omega arith) c.if-length-ne0.true; pack_promised = not_is_partial _ _ _ _ }
+
+pub returns : goal.returns
+returns c =
+    let pack = c.args.pack.now in
+    let both = let r = c.edit_in.ensures in (
+      ap Is r.told ∙ whole pack _ _ _ (omega arith) c.if-length-ne0.false,
+      (r.bytes ∙ whole pack _ _ _ (omega arith) c.if-length-ne0.false, words_promised _ _ _ _ r.others r.promised),
+    ) in
+    record { value = both.0; pack_after = both.1.0; pack_promised = both.1.1 }

@@ -1,0 +1,14 @@
+-- `input::judge_in` meets its contract: the words that the judge is handed are the pack's. Assumes nothing.
+use borrow.Author.Rules.{rules}
+use mathlib.Core.Path.{ap, ◌∙◌}
+use native.Mathlib.Omega.{arith}
+use lib.ListN.{length-take}
+use Rattle.judge.specs.Judge.{judgement}
+use Rattle.input.proofs.OfWords.{whole_loaded}
+use Rattle.input.proofs.judge_in.Goals as goal
+
+pub returns : goal.returns
+returns c =
+    let a = c.args in
+    c.judge.ensures.value
+    ∙ ap (judgement a.card) (whole_loaded a.pack.now a.room.now (omega arith) c.load-n.ensures.value c.load-n.ensures.words_after)
