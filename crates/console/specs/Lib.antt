@@ -1,3 +1,4 @@
 -- The root of what the contracts cite.
 pub mod Files
+pub mod Output
 pub mod Rooms

@@ -5,7 +5,6 @@ use Prim.Native.Nat.{ℕ, ◌+◌, ◌^◌, ◌<◌}
 use lib.ListN.{get_or}
 use Rattle.laws.proofs.OfTests.{by_test_lem}
 use Rattle.units.specs.declared.Words.{Words}
-use Rattle.opcodes.specs.declared.cf.FetchKind.{FetchKind}
 use Rattle.formats.specs.Fields.{◌of◌, FETCH_INST}
 use Rattle.fetches.specs.Fetches.{bad_fetch}
 use Rattle.microcode.specs.declared.Encoded.{Encoded}

@@ -1,6 +1,6 @@
 -- Decoding and encoding a fetch undo each other, both ways: over four words, and at any start of any buffer. Assumes nothing.
-use mathlib.Core.Path.{◌≡◌, refl, sym, ap, ap₂, ◌∙◌, subst}
-use mathlib.Core.Bool.{Bool, true, false, cond, not, ◌&&◌, ◌||◌}
+use mathlib.Core.Path.{◌≡◌, refl, sym, ap, ◌∙◌, subst}
+use mathlib.Core.Bool.{Bool, true, false, cond, not, ◌&&◌}
 use mathlib.Core.List.{List, [], ◌∷◌}
 use Prim.Native.Nat.{ℕ, zero, suc, ◌+◌, ◌^◌, ◌≤◌, ◌<◌}
 use native.Mathlib.Nat.{add-zero, add-suc, suc-add}
@@ -18,18 +18,16 @@ use Rattle.opcodes.specs.Numbers.{fetch_taken}
 use Rattle.formats.specs.Fields.{◌of◌, FETCH_INST}
 use Rattle.formats.specs.declared.tex.TexWord0.{TexWord0}
 use Rattle.formats.specs.declared.vtx.VtxWord0.{VtxWord0}
-use Rattle.formats.specs.Tex as tex
-use Rattle.formats.specs.Vtx as vtx
 use Rattle.formats.proofs.OfFormats.{word_again, read_fits, record_again, tex_word0, tex_word1, tex_word2, vtx_word0, vtx_gpr, vtx_sem, vtx_word2}
 use Rattle.fetches.specs.Fetches.{is_semantic, bad_fetch}
-use Rattle.microcode.specs.declared.Encoded.TheVariants.{NoRecord, NoRoom, Done}
+use Rattle.microcode.specs.declared.Encoded.TheVariants.{Done}
 use Rattle.microcode.proofs.RoundTrip.{done_by}
 use Rattle.fetch_codec.specs.declared.Fetch.{Fetch}
 use Rattle.fetch_codec.specs.declared.Fetch.TheVariants.{Tex, VtxGpr, VtxSem}
 use Rattle.fetch_codec.specs.declared.Clause.{Clause}
 use Rattle.fetch_codec.specs.declared.FetchDecoded.{FetchDecoded}
 use Rattle.fetch_codec.specs.declared.FetchDecoded.TheVariants.{Outside, NotTaken, Taken}
-use Rattle.fetch_codec.specs.Fetch.{kind_of, vertex_of, fetch_of, form_kind, fields_fit, form_taken, encodable, word0_of, word1_of, word2_of}
+use Rattle.fetch_codec.specs.Fetch.{kind_of, vertex_of, fetch_of, form_kind, encodable, word0_of, word1_of, word2_of}
 use Rattle.fetch_codec.specs.Buffer.{room, four_of, decode_of, write_answer, write_words, encode_answer, encode_words, Rewritten}
 
 -- ---- words, read and written

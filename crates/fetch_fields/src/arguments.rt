@@ -1,6 +1,9 @@
 // What the arguments say.
+ghost use Rattle.std.specs.Counts.{IsPrefixLen};
+
 use card::Number;
 use fetch_codec::Clause;
+use std::rt::Env;
 
 #[derive(Clone, Copy)]
 pub enum Kind {
@@ -16,9 +19,9 @@ pub enum Settings {
 }
 
 // Argument 1, in AMD's spelling.
-pub(crate) fn asked_kind() -> Kind {
-    let mut name = io::buffer();
-    let n = os::arg(1, &mut name);
+pub(crate) fn asked_kind(rt: &impl Env) -> Kind {
+    let mut name = [0u8; 4096];
+    let n = argument(rt, 1, &mut name);
     kind_named(&name[..n])
 }
 
@@ -43,10 +46,17 @@ fn is(name: &[u8], word: &[u8]) -> bool {
 }
 
 // Argument 2.
-pub(crate) fn quadword() -> Number {
-    let mut number = io::buffer();
-    let n = os::arg(2, &mut number);
+pub(crate) fn quadword(rt: &impl Env) -> Number {
+    let mut number = [0u8; 4096];
+    let n = argument(rt, 2, &mut number);
     card::read_number(&number[..n])
+}
+
+// Puts argument i at the start of a room, and answers how many bytes it has: none where it is missing or does not fit.
+pub(crate) fn argument(rt: &impl Env, i: usize, room: &mut [u8]) -> usize
+    ensures { IsPrefixLen result room.new }
+{
+    rt.arg(i, room).unwrap_or(0)
 }
 
 // Room for more settings than a fetch has fields, several times over.
@@ -55,30 +65,29 @@ pub(crate) fn settings_room() -> [u8; 16384] {
 }
 
 // Puts the arguments from the fourth on into a room, a line each.
-pub(crate) fn gather(room: &mut [u8]) -> Settings {
-    let count = os::arg_count();
-    let mut i = 4;
+pub(crate) fn gather(rt: &impl Env, room: &mut [u8]) -> Settings {
     let mut end = 0;
-    while i < count {
-        let Settings::Are(next) = setting(i, room, end) else {
+    for i in 4..usize::MAX {
+        if !console::is_given(rt, i) {
+            break;
+        }
+        let Settings::Are(next) = setting(rt, i, room, end) else {
             return Settings::TooLong;
         };
         end = next;
-        i += 1;
     }
     Settings::Are(end)
 }
 
 // Puts one at a place, and answers where it ends. One that ends with a line feed, as lines of a file do, gets no other.
-fn setting(i: usize, room: &mut [u8], at: usize) -> Settings {
+fn setting(rt: &impl Env, i: usize, room: &mut [u8], at: usize) -> Settings {
     if room.len() < at {
         return Settings::TooLong;
     }
-    let n = os::arg(i, &mut room[at..]);
-    if os::errno() != 0 {
-        return Settings::TooLong;
+    match rt.arg(i, &mut room[at..]) {
+        Ok(n) => end_line(room, at, n),
+        Err(_) => Settings::TooLong,
     }
-    end_line(room, at, n)
 }
 
 fn end_line(room: &mut [u8], at: usize, n: usize) -> Settings {

@@ -53,13 +53,13 @@ module _ (pack : List ℕ) {A : Type 0} (x y z : A) where
 
 -- the answer is none of an edit that is done, which has tag 3
 abbrev pub NotDone : Edit → Type 0
-NotDone r = OneOf (0 ∷ 1 ∷ 2 ∷ []) (tag_of edit-type.the_type r)
+NotDone r = r ≡ edit.Done → ⊥
 
 bytes_stay : (r : Edit) (pack ws : List ℕ) → NotDone r → pack ≡ bytes_after r pack ws
 bytes_stay edit.Outside pack ws h = refl
 bytes_stay edit.NotTaken pack ws h = refl
 bytes_stay (edit.Wrong at why) pack ws h = refl
-bytes_stay edit.Done pack ws h = absurd (⊎_elim (λ p. omega arith) (⊎_elim (λ p. omega arith) (λ p. omega arith)) h)
+bytes_stay edit.Done pack ws h = absurd (h refl)
 
 -- an answer that is none of an edit that is done leaves the words
 words_stay : (d : FetchDecoded) (text ws : List ℕ) (start : Words) → NotDone (edit_of d text) → edited_words d text ws start ≡ ws
@@ -68,7 +68,7 @@ words_stay NotTaken text ws start h = refl
 words_stay (Taken f) text ws start h = by (first_fault f 0 (lines_in text)) h
   where
     by : (o : Option (ℕ × Fault)) → NotDone (answer_to o) → words_with o (edited f (lines_in text)) ws start ≡ ws
-    by none h = absurd (⊎_elim (λ p. omega arith) (⊎_elim (λ p. omega arith) (λ p. omega arith)) h)
+    by none h = absurd (h refl)
     by (some x) h = refl
 
 -- no edit makes them more or fewer

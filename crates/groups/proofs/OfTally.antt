@@ -12,7 +12,6 @@ use Rattle.opcodes.specs.declared.alu.Unit.{Unit}
 use Rattle.opcodes.specs.declared.alu.Unit.TheVariants.{NotTaken, Any, Vector, Trans}
 use Rattle.opcodes.specs.declared.alu.Issue.{Issue}
 use Rattle.opcodes.specs.declared.alu.Issue.TheVariants.{Plain, Predicate, Kill, Mova, Reduction}
-use Rattle.opcodes.specs.Alu as alu
 use Rattle.opcodes.specs.Alu.{unit_number, issue_number, is_issue}
 use Rattle.opcodes.specs.Code.{code_of}
 use Rattle.instructions.specs.Instruction.{class_of, has_relative}

@@ -3,73 +3,69 @@
 // A case is a header, the card's bytes and a line feed. The header is five digits, the number of bytes; a blank; 36 bytes of
 // label; and a line feed. The cases, with the answers that `stdout` expects, were made from document 01's table and not from this
 // code.
-ghost use Rattle.std.specs.Prelude.{◌≤◌, ◌<◌, length};
+#![tactic(auto)]
+
+ghost use Rattle.std.specs.Prelude.{◌≤◌, ◌<◌, IfOk, length};
 
 use card::{Build, Card, CardRead, CardTest, Kind};
-use libc::{STDIN_FILENO, STDOUT_FILENO};
+use std::io;
+use std::io::Read;
 
 const LABEL: usize = 36;
 
 const HEADER: usize = 43;
 
-fn put(text: &[u8]) {
-    io::write_all(STDOUT_FILENO, text);
+fn put_figure(out: &impl Print, n: u64) -> io::Result<()> {
+    print!(out; " {n}")
 }
 
-fn put_figure(n: u64) {
-    put(b" ");
-    io::print_decimal(STDOUT_FILENO, n);
-}
-
-fn put_words(kind: Kind, build: Build) {
+fn put_words(out: &impl Print, kind: Kind, build: Build) -> io::Result<()> {
     match kind {
-        Kind::Pixel => put(b" ps"),
-        Kind::Vertex => put(b" vs"),
-        Kind::Geometry => put(b" gs"),
+        Kind::Pixel => out.print(" ps")?,
+        Kind::Vertex => out.print(" vs")?,
+        Kind::Geometry => out.print(" gs")?,
     }
     match build {
-        Build::Production => put(b" production"),
-        Build::Debug => put(b" debug"),
+        Build::Production => out.print(" production"),
+        Build::Debug => out.print(" debug"),
     }
 }
 
-fn put_figures(card: Card) {
-    put_figure(card.gprs as u64);
-    put_figure(card.temps as u64);
-    put_figure(card.consts as u64);
-    put_figure(card.stack as u64);
-    put_figure(card.quads.0 as u64);
+fn put_figures(out: &impl Print, card: Card) -> io::Result<()> {
+    put_figure(out, card.gprs as u64)?;
+    put_figure(out, card.temps as u64)?;
+    put_figure(out, card.consts as u64)?;
+    put_figure(out, card.stack as u64)?;
+    put_figure(out, card.quads.0 as u64)
 }
 
 // What a card that was read is as a card that a caller makes.
-fn put_test(card: Card) {
+fn put_test(out: &impl Print, card: Card) -> io::Result<()> {
     match card::check_card(card) {
-        CardTest::InRange => put(b", in range"),
+        CardTest::InRange => out.print(", in range"),
         CardTest::BadLine(n) => {
-            put(b", out of range: line");
-            put_figure(n as u64);
+            out.print(", out of range: line")?;
+            put_figure(out, n as u64)
         }
     }
 }
 
-fn put_answer(input: &[u8]) {
+fn put_answer(out: &impl Print, input: &[u8]) -> io::Result<()> {
     match card::read_card(input) {
         CardRead::Whole(card, taken) => {
-            put(b"whole, bytes");
-            put_figure(taken as u64);
-            put(b":");
-            let kind = card.kind;
-            let build = card.build;
-            put_words(kind, build);
-            put_figures(card);
-            put_test(card);
+            out.print("whole, bytes")?;
+            put_figure(out, taken as u64)?;
+            out.print(":")?;
+            put_words(out, card.kind, card.build)?;
+            put_figures(out, card)?;
+            put_test(out, card)?;
         }
         CardRead::BadLine(n) => {
-            put(b"line");
-            put_figure(n as u64);
+            out.print("line")?;
+            put_figure(out, n as u64)?;
         }
     }
-    put(b"\n");
+    out.print("\n")
 }
 
 // A digit's value; the byte of 0 is three times 16.
@@ -91,35 +87,51 @@ fn length_in(header: &[u8]) -> usize
 }
 
 // Runs the case at a place of `all`, and answers where the next one starts.
-fn run_case(all: &[u8], at: usize) -> usize
+fn run_case(out: &impl Print, all: &[u8], at: usize) -> io::Result<usize>
     requires { at < length all.now }
-    ensures { (at < result) × (result ≤ length all.now) }
+    ensures { IfOk result (λ next. (at < next) × (next ≤ length all.now)) }
 {
     if all.len() - at < HEADER {
-        return all.len();
+        return Ok(all.len());
     }
     let start = at + HEADER;
     let n = length_in(&all[at..start]);
     if all.len() - start <= n {
-        return all.len();
+        return Ok(all.len());
     }
     let end = start + n;
     let label = at + 6;
     let label_end = label + LABEL;
-    put(&all[label..label_end]);
-    put_answer(&all[start..end]);
-    end + 1
+    out.write_all(&all[label..label_end])?;
+    put_answer(out, &all[start..end])?;
+    Ok(end + 1)
 }
 
-fn run(all: &[u8]) {
+fn run(out: &impl Print, all: &[u8]) -> io::Result<()> {
     let mut at = 0;
     while at < all.len() {
-        at = run_case(all, at);
+        at = run_case(out, all, at)?;
     }
+    Ok(())
 }
 
-fn main() {
-    let mut room = io::large_buffer();
-    let n = io::read_full(STDIN_FILENO, &mut room);
-    run(&room[..n]);
+// Reads until the input ends or the room is full, and answers how many bytes stand in the room.
+fn read_full(input: &mut impl Read, room: &mut [u8]) -> io::Result<usize>
+    ensures { IfOk result (λ n. n ≤ length room.new) }
+{
+    let mut done = 0;
+    while done < room.len() {
+        let more = input.read(&mut room[done..])?;
+        if more == 0 {
+            return Ok(done);
+        }
+        done += more;
+    }
+    Ok(done)
+}
+
+fn main(rt: HostRuntime) -> io::Result<()> {
+    let mut room = [0u8; 65536];
+    let n = read_full(&mut rt.stdin(), &mut room)?;
+    run(&rt.stdout(), &room[..n])
 }

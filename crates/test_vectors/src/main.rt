@@ -3,9 +3,12 @@
 // A case is a header and the input's bytes, a card and behind it a pack. The header is five digits, the number of bytes; an e where the
 // explanation is asked for too, else a blank; 36 bytes of label; and a line feed. The first cases are document 01's examples by hand, with
 // the answers that it gives; the others and what is to be written on them were made from the papers and not from this code.
+#![tactic(auto)]
+
 ghost use Rattle.std.specs.Prelude.{◌<◌};
 
-use libc::{STDIN_FILENO, STDOUT_FILENO};
+use std::io;
+use std::io::{Read, Write};
 
 const HEADER: usize = 43;
 
@@ -29,42 +32,68 @@ fn length_in(header: &[u8]) -> usize {
     high + digit(header, 2) * 100 + digit(header, 3) * 10 + digit(header, 4)
 }
 
-// Reads so many bytes as `input` has room for, judges them and explains the answer if asked.
-fn judge_next(input: &mut [u8], room: &mut [u8], explained: bool) {
-    let n = io::read_full(STDIN_FILENO, input);
-    console::report_on(&input[..n], room);
+// Reads so many bytes as `bytes` has room for, judges them and explains the answer if asked.
+fn judge_next(
+    input: &mut impl Read,
+    output: &mut impl Write,
+    errors: &mut impl Write,
+    bytes: &mut [u8],
+    room: &mut [u8],
+    explained: bool,
+) -> io::Result<()> {
+    let n = console::read_all(input, bytes)?;
+    console::report_on(output, errors, &bytes[..n], room);
     if explained {
-        console::explain_on(&input[..n], room);
+        console::explain_on(output, errors, &bytes[..n], room);
     }
+    Ok(())
 }
 
 // Judges the case that comes next, and answers whether there was one.
-fn next_case(bytes: &mut [u8], room: &mut [u8]) -> bool {
+fn next_case(
+    input: &mut impl Read,
+    output: &mut impl Write,
+    errors: &mut impl Write,
+    bytes: &mut [u8],
+    room: &mut [u8],
+) -> io::Result<bool> {
     let mut header = [0u8; HEADER];
-    if io::read_full(STDIN_FILENO, &mut header) < HEADER {
-        return false;
+    if console::read_all(input, &mut header)? < HEADER {
+        return Ok(false);
     }
     let n = length_in(&header);
     if bytes.len() < n {
-        return false;
+        return Ok(false);
     }
-    io::write_all(STDOUT_FILENO, &header[LABEL..]);
-    judge_next(&mut bytes[..n], room, header[ASKED] == b'e');
-    true
+    output.write_all(&header[LABEL..])?;
+    let explained = header[ASKED] == b'e';
+    judge_next(input, output, errors, &mut bytes[..n], room, explained)?;
+    Ok(true)
 }
 
-fn run(bytes: &mut [u8], room: &mut [u8]) {
-    let mut left: u32 = 10000;
-    while left > 0 {
-        if !next_case(bytes, room) {
-            return;
+fn run(
+    input: &mut impl Read,
+    output: &mut impl Write,
+    errors: &mut impl Write,
+    bytes: &mut [u8],
+    room: &mut [u8],
+) -> io::Result<()> {
+    for _ in 0..10000u32 {
+        if !next_case(input, output, errors, bytes, room)? {
+            break;
         }
-        left -= 1;
     }
+    Ok(())
 }
 
-fn main() {
+fn main(rt: HostRuntime) -> io::Result<()> {
     let mut bytes = console::input_room();
     let mut room = console::explanation_room();
-    run(&mut bytes, &mut room);
+    run(
+        &mut rt.stdin(),
+        &mut rt.stdout(),
+        &mut rt.stderr(),
+        &mut bytes,
+        &mut room,
+    )
 }

@@ -1,5 +1,4 @@
 -- `apart::is_odd_fetch` meets its contract: by the clause. Assumes nothing.
-use borrow.Author.Rules.{rules}
 use Rattle.apart.specs.Apart.{odd_fetch}
 use Rattle.apart.proofs.is_odd_fetch.Goals as goal
 

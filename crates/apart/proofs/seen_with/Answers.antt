@@ -1,5 +1,4 @@
 -- `apart::seen_with` meets its contract: by the clause, and by whether its range is clear. Assumes nothing.
-use borrow.Author.Rules.{rules}
 use Rattle.apart.specs.Code.{opens_none}
 use Rattle.apart.proofs.OfApart.{is_clear_lem, turns_there, slots_open, slots_end, fetches_open, fetches_end}
 use Rattle.apart.proofs.seen_with.Goals as goal

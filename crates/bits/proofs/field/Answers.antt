@@ -4,8 +4,7 @@ use borrow.Author.Rules.{rules}
 use mathlib.Core.Path.{◌≡◌, sym, ap, ◌∙◌}
 use Prim.Native.Nat.{ℕ, ◌-◌, ◌*◌, ◌/◌, ◌%◌, ◌^◌, ◌≤◌, ◌<◌}
 use native.Mathlib.Nat.{one-mul, zero-mod, mod-eq_of_lt, div-eq_of_lt, lt_of_lt_of_le, lt_of_le_of_lt}
-use native.Mathlib.Omega.{arith}
-use lib.Pow.{pow_pos, pow_mono, pow-lt, shr_le}
+use lib.Pow.{pow_mono, pow-lt, shr_le}
 use lib.Bits.{bit_and, and_mask}
 use Rattle.bits.specs.Fields.{field_of}
 use Rattle.bits.proofs.field.Goals as goal

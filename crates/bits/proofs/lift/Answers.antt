@@ -1,5 +1,4 @@
 -- `bits::lift` meets its contract at any offset: what is moved up by 32 or more leaves nothing in the word. Assumes nothing.
-use borrow.Author.Rules.{rules}
 use Rattle.bits.proofs.OfField.{lost}
 use Rattle.bits.proofs.lift.Goals as goal
 

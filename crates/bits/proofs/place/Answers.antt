@@ -1,9 +1,5 @@
 -- `bits::place` meets its contract at any offset and width: what is moved up by 32 or more leaves nothing in the word.
 -- Assumes nothing.
-use borrow.Author.Rules.{rules}
-use mathlib.Core.Path.{ap, ◌∙◌}
-use Prim.Native.Nat.{ℕ, ◌*◌, ◌%◌, ◌^◌}
-use native.Mathlib.Nat.{div-one}
 use Rattle.bits.proofs.OfField.{lost}
 use Rattle.bits.proofs.place.Goals as goal
 

@@ -1,9 +1,5 @@
 -- `compare::changed` meets its contract: the two counts are those of the definition, and the part starts so many words of four bytes
 -- behind the newer's first. Assumes nothing.
-use borrow.Author.Rules.{rules}
-use native.Mathlib.Omega.{arith}
-use lib.ListN.{length-take, length-drop}
-use Rattle.laws.proofs.OfLists.{to_the_end}
 use Rattle.compare.proofs.OfChanged.{part_words, part_place}
 use Rattle.compare.proofs.changed.Goals as goal
 

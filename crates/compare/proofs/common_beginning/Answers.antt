@@ -1,10 +1,8 @@
 -- `compare::common_beginning` meets its contract. The loop's invariant: the first `n` words are common. It ends at two words that
 -- differ or where a list ends, and there a common beginning is the longest. Assumes nothing.
-use Prim.Native.Nat.{◌≤◌, ◌-◌}
 use mathlib.Core.Path.{◌≡◌, ◌∙◌}
 use borrow.Author.Rules.{rules}
 use native.Mathlib.Omega.{arith}
-use Rattle.compare.specs.Laws.{CommonBeginning}
 use Rattle.compare.proofs.OfChanged.{none_common, one_more_common, beginning_ends}
 use Rattle.compare.proofs.common_beginning.Goals as goal
 
@@ -35,8 +33,7 @@ pub loop-n-smaller : goal.loop-n-smaller
 loop-n-smaller c = search rules
 
 pub loop-n-preserved : goal.loop-n-preserved
-loop-n-preserved c =
-    (
+loop-n-preserved c = (
   search rules,
   one_more_common _ _ _ c.loop-n.invariant.1 (omega arith) (omega arith) c.if-older-n.false,
 )

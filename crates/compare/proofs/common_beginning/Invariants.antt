@@ -1,11 +1,7 @@
 -- `compare::common_beginning` meets its contract. The loop's invariant: the first `n` words are common. It ends at two words that
 -- differ or where a list ends, and there a common beginning is the longest. Assumes nothing.
 use Prim.Native.Nat.{◌≤◌, ◌-◌}
-use mathlib.Core.Path.{◌≡◌, ◌∙◌}
-use borrow.Author.Rules.{rules}
-use native.Mathlib.Omega.{arith}
 use Rattle.compare.specs.Laws.{CommonBeginning}
-use Rattle.compare.proofs.OfChanged.{none_common, one_more_common, beginning_ends}
 use Rattle.compare.proofs.common_beginning.Given as goal
 
 abbrev pub invariant-loop-n : goal.invariant-loop-n

@@ -1,10 +1,8 @@
 -- `compare::common_ending` meets its contract. The loop's invariant: the last `n` words are common. It ends at two words that
 -- differ or where a list ends, and there a common ending is the longest. Assumes nothing.
-use Prim.Native.Nat.{◌≤◌, ◌-◌}
 use mathlib.Core.Path.{◌≡◌, ◌∙◌}
 use borrow.Author.Rules.{rules}
 use native.Mathlib.Omega.{arith}
-use Rattle.compare.specs.Laws.{CommonEnding}
 use Rattle.compare.proofs.OfChanged.{none_common_ending, one_more_common_ending, ending_ends}
 use Rattle.compare.proofs.common_ending.Goals as goal
 
@@ -47,8 +45,7 @@ pub loop-n-smaller : goal.loop-n-smaller
 loop-n-smaller c = search rules
 
 pub loop-n-preserved : goal.loop-n-preserved
-loop-n-preserved c =
-    (
+loop-n-preserved c = (
   search rules,
   one_more_common_ending _ _ _ c.loop-n.invariant.1 (omega arith) (omega arith) c.if-older-n.false,
 )

@@ -1,11 +1,7 @@
 -- `compare::common_ending` meets its contract. The loop's invariant: the last `n` words are common. It ends at two words that
 -- differ or where a list ends, and there a common ending is the longest. Assumes nothing.
 use Prim.Native.Nat.{◌≤◌, ◌-◌}
-use mathlib.Core.Path.{◌≡◌, ◌∙◌}
-use borrow.Author.Rules.{rules}
-use native.Mathlib.Omega.{arith}
 use Rattle.compare.specs.Laws.{CommonEnding}
-use Rattle.compare.proofs.OfChanged.{none_common_ending, one_more_common_ending, ending_ends}
 use Rattle.compare.proofs.common_ending.Given as goal
 
 abbrev pub invariant-loop-n : goal.invariant-loop-n

@@ -1,5 +1,4 @@
 -- `faults::alu_register_fault` meets its contract: a register by the one test. Assumes nothing.
-use borrow.Author.Rules.{rules}
 use mathlib.Core.Path.{sym, ◌∙◌}
 use Rattle.grants.specs.Grants.{alu_register}
 use Rattle.faults.proofs.OfFaults.{one_at_fault, one_granted}

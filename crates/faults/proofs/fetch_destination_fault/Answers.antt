@@ -1,5 +1,5 @@
 -- `faults::fetch_destination_fault` meets its contract: only one that is direct and no semantic id is named. Assumes nothing.
-use Rattle.faults.proofs.OfFaults.{semantic, relative-fetched, direct-fetched}
+use Rattle.faults.proofs.OfFaults.{semantic, relative-fetched}
 use Rattle.faults.proofs.fetch_destination_fault.Goals as goal
 
 pub returns-then-is_semantic : goal.returns-then-is_semantic

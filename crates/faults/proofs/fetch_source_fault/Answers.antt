@@ -1,5 +1,5 @@
 -- `faults::fetch_source_fault` meets its contract: only one that is direct is named. Assumes nothing.
-use Rattle.faults.proofs.OfFaults.{relative_fetch_source, direct_fetch_source}
+use Rattle.faults.proofs.OfFaults.{relative_fetch_source}
 use Rattle.faults.proofs.fetch_source_fault.Goals as goal
 
 pub returns-then-read-ne0 : goal.returns-then-read-ne0

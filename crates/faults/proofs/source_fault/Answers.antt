@@ -1,5 +1,5 @@
 -- `faults::source_fault` meets its contract: a relative source names nothing. Assumes nothing.
-use Rattle.faults.proofs.OfFaults.{relative_source, direct_source}
+use Rattle.faults.proofs.OfFaults.{relative_source}
 use Rattle.faults.proofs.source_fault.Goals as goal
 
 pub returns-then-rel-ne0 : goal.returns-then-rel-ne0

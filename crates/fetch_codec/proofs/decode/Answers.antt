@@ -1,6 +1,5 @@
 -- `fetch_codec::decode` meets its contract: the record of what is found. Assumes nothing.
-use borrow.Author.Rules.{rules}
-use mathlib.Core.Path.{ap, ◌∙◌}
+use mathlib.Core.Path.{◌∙◌}
 use Rattle.fetch_codec.proofs.OfPromises.{decode_promises}
 use Rattle.fetch_codec.proofs.decode.Goals as goal
 

@@ -1,5 +1,4 @@
 -- `fetch_codec::encode` meets its contract: what is written of the fetch's words. Assumes nothing.
-use borrow.Author.Rules.{rules}
 use Rattle.fetch_codec.proofs.OfBuffer.{written_fetch}
 use Rattle.fetch_codec.proofs.OfPromises.{encode_promises}
 use Rattle.fetch_codec.proofs.encode.Goals as goal

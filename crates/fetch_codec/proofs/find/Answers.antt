@@ -1,5 +1,4 @@
 -- `fetch_codec::find` meets its contract: there is room for the four words or not. Assumes nothing.
-use borrow.Author.Rules.{rules}
 use native.Mathlib.Omega.{arith}
 use Rattle.fetch_codec.proofs.OfBuffer.{find_short, find_four}
 use Rattle.fetch_codec.proofs.find.Goals as goal

@@ -1,9 +1,6 @@
 -- `fetch_codec::put_four` meets its contract: there are four words or not. Assumes nothing.
-use borrow.Author.Rules.{rules}
 use mathlib.Core.Path.{refl}
 use native.Mathlib.Omega.{arith}
-use lib.ListN.{set}
-use lib.Seq.{lt-length-set}
 use Rattle.fetch_codec.proofs.OfBuffer.{put_done, put_short}
 use Rattle.fetch_codec.proofs.put_four.Goals as goal
 

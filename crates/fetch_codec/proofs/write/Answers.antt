@@ -1,5 +1,4 @@
 -- `fetch_codec::write` meets its contract: 21 before 20, and what `put_four` puts into the part. Assumes nothing.
-use borrow.Author.Rules.{rules}
 use native.Mathlib.Omega.{arith}
 use Rattle.fetch_codec.proofs.OfBuffer.{write_refused, write_short, write_put}
 use Rattle.fetch_codec.proofs.OfPromises.{write_promises}

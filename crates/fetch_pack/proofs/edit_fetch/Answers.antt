@@ -19,8 +19,9 @@ returns-then-length-ne0 c =
 pub returns : goal.returns
 returns c =
     let pack = c.args.pack.now in
-    let both = let r = c.edit_in.ensures in (
-      ap Is r.told ∙ whole pack _ _ _ (omega arith) c.if-length-ne0.false,
-      (r.bytes ∙ whole pack _ _ _ (omega arith) c.if-length-ne0.false, words_promised _ _ _ _ r.others r.promised),
-    ) in
-    record { value = both.0; pack_after = both.1.0; pack_promised = both.1.1 }
+    let r = c.edit_in.ensures in
+    record {
+      value = ap Is r.told ∙ whole pack _ _ _ (omega arith) c.if-length-ne0.false;
+      pack_after = r.bytes ∙ whole pack _ _ _ (omega arith) c.if-length-ne0.false;
+      pack_promised = words_promised _ _ _ _ r.others r.promised;
+    }

@@ -12,12 +12,12 @@ pub returns-in_default : goal.returns-in_default
 returns-in_default c =
     let same = whole_loaded c.args.pack.now c.args.room.now c.requires.pack_in_bounds c.load-n.ensures.value c.load-n.ensures.words_after in
     edit_refused c.args.clause c.args.pack.now c.args.settings.now c.args.start same
-    c.edit_fetch-edit.ensures.value c.edit_fetch-edit.ensures.words_after c.edit_fetch-edit.ensures.promised c.in_default.in_default-own.keys2
+    c.edit_fetch-edit.ensures.value c.edit_fetch-edit.ensures.words_after c.edit_fetch-edit.ensures.promised c.in_default.not-Done
 
 pub returns : goal.returns
 returns c =
     let same = whole_loaded c.args.pack.now c.args.room.now c.requires.pack_in_bounds c.load-n.ensures.value c.load-n.ensures.words_after in
     edit_stored c.args.clause c.args.pack.now c.args.settings.now c.args.start same
     c.edit_fetch-edit.ensures.value c.edit_fetch-edit.ensures.words_after c.edit_fetch-edit.ensures.promised
-    c.load-n.result _ c.in-Done.is c.requires.pack_len (c.load-n.ensures.value ∙ min-eq_left c.requires.pack_in_bounds) (λ j. (c.slice_known-3-1.given j).fits)
-    (λ j. (c.slice-known.given j).fits) c.store.ensures
+    c.load-n.result _ c.in-Done.is c.requires.pack_len (c.load-n.ensures.value ∙ min-eq_left c.requires.pack_in_bounds) (λ j. (c.slice_known-4-1.given j).fits)
+    (λ j. (c.slice_known-1.given j).fits) c.store.ensures

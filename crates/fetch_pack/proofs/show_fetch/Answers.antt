@@ -18,8 +18,8 @@ returns-then-pack-ne0 c =
 
 pub returns : goal.returns
 returns c =
-    let both = let pack = c.args.pack.now in (
-      ap Is c.show_in.ensures.value ∙ whole pack _ _ _ (omega arith) c.if-pack-ne0.false,
-      c.show_in.ensures.out_after ∙ whole pack _ _ _ (omega arith) c.if-pack-ne0.false,
-    ) in
-    record { value = both.0; out_after = both.1 }
+    let pack = c.args.pack.now in
+    record {
+      value = ap Is c.show_in.ensures.value ∙ whole pack _ _ _ (omega arith) c.if-pack-ne0.false;
+      out_after = c.show_in.ensures.out_after ∙ whole pack _ _ _ (omega arith) c.if-pack-ne0.false;
+    }

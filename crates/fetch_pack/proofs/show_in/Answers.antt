@@ -11,8 +11,8 @@ use Rattle.fetch_pack.proofs.show_in.Goals as goal
 pub returns : goal.returns
 returns c =
     let a = c.args in
-    let both = let same = whole_loaded a.pack.now a.room.now (omega arith) c.load-n.ensures.value c.load-n.ensures.words_after in (
-      c.write_fetch.ensures.value ∙ ap (λ ws. shown_of (decode_of a.clause ws a.start) a.out.now) same,
-      c.write_fetch.ensures.out_after ∙ ap (λ ws. shown_after (decode_of a.clause ws a.start) a.out.now) same,
-    ) in
-    record { value = both.0; out_after = both.1 }
+    let same = whole_loaded a.pack.now a.room.now (omega arith) c.load-n.ensures.value c.load-n.ensures.words_after in
+    record {
+      value = c.write_fetch.ensures.value ∙ ap (λ ws. shown_of (decode_of a.clause ws a.start) a.out.now) same;
+      out_after = c.write_fetch.ensures.out_after ∙ ap (λ ws. shown_after (decode_of a.clause ws a.start) a.out.now) same;
+    }

@@ -2,11 +2,11 @@
 use Rattle.std.proofs.Common.{not}
 use borrow.Author.Rules.{rules}
 use mathlib.Core.Path.{◌≡◌, sym, ap, ◌∙◌}
-use Prim.Native.Nat.{ℕ, ◌-◌, ◌≤◌}
+use Prim.Native.Nat.{ℕ}
 use native.Mathlib.Omega.{arith}
 use native.Mathlib.Numerals.{add-one}
 use borrow.Author.Tests.{ltb-true, ltb-false, not-true, not-false}
-use Rattle.checks.specs.declared.Verdict.TheVariants.{Accepted, Refused}
+use Rattle.checks.specs.declared.Verdict.TheVariants.{Refused}
 use Rattle.checks.specs.declared.Place.TheVariants.{Quadword}
 use Rattle.checks.specs.Checks.{first_broken, below}
 use Rattle.checks.proofs.OfChecks.{below_none, below_next, below_found}

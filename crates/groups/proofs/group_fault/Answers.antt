@@ -1,5 +1,4 @@
 -- `groups::group_fault` meets its contract, rule by rule. Assumes nothing.
-use borrow.Author.Rules.{rules}
 use Rattle.groups.proofs.OfCode.{breaks_11, breaks-12, breaks-13, breaks-14, breaks-15, breaks-none}
 use Rattle.groups.proofs.group_fault.Goals as goal
 

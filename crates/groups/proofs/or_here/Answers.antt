@@ -1,5 +1,4 @@
 -- `groups::or_here` meets its contract. Assumes nothing.
-use borrow.Author.Rules.{rules}
 use Rattle.groups.proofs.OfCode.{here, not_here, earlier}
 use Rattle.groups.proofs.or_here.Goals as goal
 

@@ -1,5 +1,4 @@
 -- `instructions::source_literals` meets its contract: 253 is the literal. Assumes nothing.
-use native.Mathlib.Omega.{arith}
 use borrow.Author.Tests.{eq-eqb, ne_eqb}
 use Rattle.instructions.specs.Instruction.{source_literals}
 use Rattle.instructions.proofs.source_literals.Goals as goal

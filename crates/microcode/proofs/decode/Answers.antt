@@ -1,5 +1,4 @@
 -- `microcode::decode` meets its contract: the record of what is found. Assumes nothing.
-use borrow.Author.Rules.{rules}
 use mathlib.Core.Path.{◌∙◌}
 use Rattle.microcode.proofs.OfPromises.{decode_promises}
 use Rattle.microcode.proofs.decode.Goals as goal

@@ -1,5 +1,4 @@
 -- `microcode::encode` meets its contract: what is written of the record's words. Assumes nothing.
-use borrow.Author.Rules.{rules}
 use Rattle.microcode.proofs.OfCodec.{written_record}
 use Rattle.microcode.proofs.OfPromises.{encode_promises}
 use Rattle.microcode.proofs.encode.Goals as goal

@@ -1,5 +1,4 @@
 -- `microcode::find` meets its contract: there is room for the pair or not. Assumes nothing.
-use borrow.Author.Rules.{rules}
 use native.Mathlib.Omega.{arith}
 use Rattle.microcode.proofs.OfCodec.{decode_short, decode_pair}
 use Rattle.microcode.proofs.find.Goals as goal

@@ -1,5 +1,4 @@
 -- `microcode::put_pair` meets its contract: there are two words or not. Assumes nothing.
-use borrow.Author.Rules.{rules}
 use mathlib.Core.Path.{refl}
 use native.Mathlib.Omega.{arith}
 use Rattle.microcode.proofs.OfCodec.{put_done, put_short}

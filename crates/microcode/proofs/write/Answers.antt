@@ -1,5 +1,4 @@
 -- `microcode::write` meets its contract: 21 before 20, and what `put_pair` puts into the part. Assumes nothing.
-use borrow.Author.Rules.{rules}
 use Rattle.microcode.proofs.OfCodec.{write_refused, write_beyond, write_put}
 use Rattle.microcode.proofs.OfPromises.{write_promises}
 use Rattle.microcode.proofs.write.Goals as goal

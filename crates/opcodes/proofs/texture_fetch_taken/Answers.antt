@@ -1,6 +1,5 @@
 -- `opcodes::texture_fetch_taken` meets its contract: below 32 its bits are the table's answers, by one test over the 32 numbers, and the table
 -- has none from 32 on. Assumes nothing.
-use borrow.Author.Rules.{rules}
 use mathlib.Core.Path.{◌≡◌, refl}
 use mathlib.Core.Bool.{Bool, false}
 use Prim.Native.Nat.{ℕ, ◌/◌, ◌%◌, ◌^◌, ◌<◌}

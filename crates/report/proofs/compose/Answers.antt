@@ -1,5 +1,4 @@
 -- `report::compose` meets its contract: the five lines follow one another, and each is made of what the contract's is. Assumes nothing.
-use borrow.Author.Rules.{rules}
 use Rattle.report.proofs.OfLines.{five_lines}
 use Rattle.report.proofs.compose.Goals as goal
 

@@ -1,5 +1,4 @@
 -- `report::put_whole` meets its contract: the bytes are put at the start of the buffer, or nothing is. Assumes nothing.
-use borrow.Author.Rules.{rules}
 use native.Mathlib.Omega.{arith}
 use Rattle.report.proofs.OfBuffer.{whole_buffer, whole_length, no_room_answer, no_room_buffer}
 use Rattle.report.proofs.put_whole.Goals as goal

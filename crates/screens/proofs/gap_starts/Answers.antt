@@ -1,6 +1,5 @@
 -- `screens::gap_starts` meets its contract. Assumes nothing.
-use Rattle.std.proofs.Common.{◌+◌, ◌∙◌, arith, rules}
-use Rattle.grants.proofs.OfGrants.{locked_most}
+use Rattle.std.proofs.Common.{◌+◌, ◌∙◌}
 use Rattle.screens.specs.Code.{by_row, starts_of}
 use Rattle.screens.proofs.gap_starts.Goals as goal
 

@@ -1,6 +1,5 @@
 -- `screens::gap_widths` meets its contract. Assumes nothing.
-use Rattle.std.proofs.Common.{◌-◌, ◌∙◌, arith, rules}
-use Rattle.grants.proofs.OfGrants.{locked_most}
+use Rattle.std.proofs.Common.{◌-◌, ◌∙◌}
 use Rattle.screens.specs.Code.{by_row, widths_of}
 use Rattle.screens.proofs.gap_widths.Goals as goal
 

@@ -1,5 +1,4 @@
 -- `screens::in_gap` meets its contract. Assumes nothing.
-use Rattle.std.proofs.Common.{rules}
 use Rattle.screens.specs.Code.{in_gap}
 use Rattle.screens.proofs.in_gap.Goals as goal
 

@@ -1,5 +1,5 @@
 -- `screens::writes_gap` meets its contract. Assumes nothing.
-use Rattle.std.proofs.Common.{cond, get_or, ◌∙◌, rules}
+use Rattle.std.proofs.Common.{cond, get_or, ◌∙◌}
 use Rattle.screens.specs.Code.{is_among, writes_gap}
 use Rattle.screens.proofs.writes_gap.Goals as goal
 

@@ -1,5 +1,4 @@
 -- `section::alu_clause` meets its contract: its fields are those read. Assumes nothing.
-use borrow.Author.Rules.{rules}
 use mathlib.Core.Path.{◌∙◌}
 use native.Mathlib.Omega.{arith}
 use Rattle.formats.specs.Fields.{◌of◌, CF_ALU_COUNT}

@@ -1,5 +1,4 @@
 -- `section::clause_of` meets its contract: by what the pair is. Assumes nothing.
-use borrow.Author.Rules.{rules}
 use Rattle.section.specs.Rules.{clause_of}
 use Rattle.section.proofs.clause_of.Goals as goal
 

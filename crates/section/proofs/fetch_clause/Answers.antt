@@ -1,5 +1,4 @@
 -- `section::fetch_clause` meets its contract: its fields are those read. Assumes nothing.
-use borrow.Author.Rules.{rules}
 use mathlib.Core.Path.{◌∙◌}
 use native.Mathlib.Omega.{arith}
 use Rattle.formats.specs.Cf.{count_of}

@@ -1,10 +1,7 @@
 -- `section::find_end` meets its contract. The loop's invariant: the end is the first one from here on. Assumes nothing.
-use mathlib.Core.Path.{◌≡◌, sym, ◌∙◌}
+use mathlib.Core.Path.{◌≡◌}
 use Prim.Native.Nat.{◌-◌, ◌≤◌}
-use native.Mathlib.Omega.{arith}
-use borrow.Author.Tests.{ltb-false}
 use Rattle.section.specs.Control.{end_from, end_of}
-use Rattle.section.proofs.OfEnd.{is_searched, high_word_of, next_pair, end_first, end-found, end-next, end_none}
 use Rattle.section.proofs.find_end.Given as goal
 
 abbrev pub invariant-loop-p : goal.invariant-loop-p

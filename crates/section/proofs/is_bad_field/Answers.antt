@@ -1,5 +1,4 @@
 -- `section::is_bad_field` meets its contract: by what the pair is. Assumes nothing.
-use borrow.Author.Rules.{rules}
 use Rattle.section.specs.Rules.{bad_field}
 use Rattle.section.proofs.is_bad_field.Goals as goal
 

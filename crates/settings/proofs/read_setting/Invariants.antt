@@ -1,11 +1,7 @@
 -- `settings::read_setting` meets its contract. The loop's invariant: the keys so far do not begin the setting. Assumes nothing.
-use borrow.Author.Rules.{rules}
-use mathlib.Core.Path.{sym, ◌∙◌}
-use Prim.Native.Nat.{◌-◌, ◌≤◌}
-use native.Mathlib.Omega.{arith}
+use Prim.Native.Nat.{◌-◌}
 use lib.ListN.{length}
-use Rattle.report.proofs.OfSettings.{Key, key_at}
-use Rattle.settings.proofs.OfReading.{as_said, Searched, none_searched, all_searched, key-other, behind-key, key-found}
+use Rattle.settings.proofs.OfReading.{Searched}
 use Rattle.settings.proofs.read_setting.Given as goal
 
 abbrev pub invariant-loop-at : goal.invariant-loop-at

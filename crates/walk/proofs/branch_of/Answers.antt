@@ -1,5 +1,4 @@
 -- `walk::branch_of` meets its contract: its fields are those read. Assumes nothing.
-use borrow.Author.Rules.{rules}
 use Rattle.units.specs.Units.{quadwords}
 use Rattle.walk.specs.declared.Flow.TheVariants.{Branch}
 use Rattle.walk.specs.Flow.{flow_of}

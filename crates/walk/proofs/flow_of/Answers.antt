@@ -1,5 +1,4 @@
 -- `walk::flow_of` meets its contract: what a pair does, for each that it can be. Assumes nothing.
-use borrow.Author.Rules.{rules}
 use Rattle.walk.specs.Flow.{flow_of}
 use Rattle.walk.proofs.flow_of.Goals as goal
 

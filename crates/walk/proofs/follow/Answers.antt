@@ -1,5 +1,4 @@
 -- `walk::follow` meets its contract: by what the pair does. Assumes nothing.
-use borrow.Author.Rules.{rules}
 use Rattle.walk.specs.CodeRows.{followed}
 use Rattle.walk.proofs.follow.Goals as goal
 

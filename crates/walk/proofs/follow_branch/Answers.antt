@@ -1,5 +1,4 @@
 -- `walk::follow_branch` meets its contract: by the kind of branch. Assumes nothing.
-use borrow.Author.Rules.{rules}
 use Rattle.walk.specs.CodeRows.{followed}
 use Rattle.walk.proofs.follow_branch.Goals as goal
 

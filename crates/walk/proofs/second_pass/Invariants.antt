@@ -1,15 +1,10 @@
 -- `walk::second_pass` meets its contract. The loop's invariant: the places passed break nothing. Assumes nothing.
-use mathlib.Core.Path.{◌≡◌, sym, ◌∙◌}
-use Prim.Native.Nat.{◌-◌, ◌^◌, ◌≤◌, ◌<◌}
-use native.Mathlib.Omega.{arith}
-use borrow.Author.Tests.{ltb-true, ltb-false}
-use Rattle.units.proofs.OfUnits.{behind_exact}
+use mathlib.Core.Path.{◌≡◌}
+use Prim.Native.Nat.{◌-◌, ◌≤◌}
 use Rattle.checks.specs.declared.Verdict.TheVariants.{Accepted}
 use Rattle.checks.specs.Checks.{first_broken, below}
-use Rattle.checks.proofs.OfChecks.{below_none}
 use Rattle.walk.specs.Flow.{flow_at}
 use Rattle.walk.specs.CodeRows.{row_checks}
-use Rattle.walk.proofs.OfTests.{pass_all, pass-target, pass-stack, pass-next}
 use Rattle.walk.proofs.second_pass.Given as goal
 
 abbrev pub invariant-loop-pairs : goal.invariant-loop-pairs

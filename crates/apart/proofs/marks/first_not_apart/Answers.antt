@@ -1,7 +1,6 @@
 -- `apart::marks::first_not_apart` meets its contract: whichever row it takes, the marks have a place in it. Assumes nothing.
-use borrow.Author.Rules.{rules}
 use native.Mathlib.Omega.{arith}
-use Rattle.apart.proofs.OfMarks.{unmarked, not_apart_first}
+use Rattle.apart.proofs.OfMarks.{unmarked}
 use Rattle.apart.proofs.marks.first_not_apart.Goals as goal
 
 pub search-requires : goal.search-requires

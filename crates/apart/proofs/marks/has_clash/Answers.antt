@@ -1,10 +1,7 @@
 -- `apart::marks::has_clash` meets its contract. The loop's invariant: the quadwords passed were free and are marked. Assumes nothing.
-use Prim.Native.Nat.{◌+◌, ◌-◌}
 use borrow.Author.Rules.{rules}
 use Rattle.apart.specs.Code.{again}
-use Rattle.apart.proofs.OfMarks.{Filling, filling_none, filling-next, filling-all, filling-clash}
-use Rattle.apart.proofs.marks.has_clash.Reads as reads
-use Rattle.apart.proofs.marks.has_clash.Lts as lts
+use Rattle.apart.proofs.OfMarks.{filling-all, filling-clash}
 use Rattle.apart.proofs.marks.has_clash.Goals as goal
 
 pub returns-then-marks-start : goal.returns-then-marks-start

@@ -1,15 +1,13 @@
 -- `apart::marks::search` meets its contract. The loop's invariant: all places passed are fit, and the marks are those of their clauses. Assumes
 -- nothing.
-use borrow.Author.Tests.{ltb-true, ltb-false}
-use mathlib.Core.Path.{◌≡◌, refl, sym, ◌∙◌}
-use Prim.Native.Nat.{◌-◌}
+use borrow.Author.Tests.{ltb-true}
+use mathlib.Core.Path.{sym, ◌∙◌}
 use native.Mathlib.Numerals.{add-one}
 use native.Mathlib.Omega.{arith}
-use lib.ListN.{length}
 use Rattle.units.proofs.OfUnits.{behind_exact}
 use Rattle.section.specs.Rules.{clause_at}
 use Rattle.apart.proofs.OfApart.{sized_at}
-use Rattle.apart.proofs.OfMarks.{Searching, searching_first, searching-few, searching-next, searching-found, searching_none}
+use Rattle.apart.proofs.OfMarks.{searching-few, searching-next, searching-found}
 use Rattle.apart.proofs.marks.search.Goals as goal
 
 pub is_unfit-requires : goal.is_unfit-requires

@@ -1,6 +1,5 @@
 -- `apart::ranges::range_at` meets its contract: the pair's words, and what they say. Assumes nothing.
 use borrow.Author.Rules.{rules}
-use native.Mathlib.Omega.{arith}
 use Rattle.units.proofs.OfUnits.{stands}
 use Rattle.apart.proofs.OfApart.{range_here}
 use Rattle.apart.proofs.ranges.range_at.Goals as goal

@@ -1,5 +1,4 @@
 -- `fetch_codec::four::found_in` meets its contract: the form, and rule 8. Assumes nothing.
-use borrow.Author.Rules.{rules}
 use Rattle.fetch_codec.proofs.OfFour.{four_refused, four-texture, four-semantic, four-register}
 use Rattle.fetch_codec.proofs.four.found_in.Goals as goal
 

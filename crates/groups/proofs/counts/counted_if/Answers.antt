@@ -1,8 +1,7 @@
 -- `groups::counts::counted_if` meets its contract, variant by variant. Assumes nothing.
 use Rattle.std.proofs.Common.{ap, not}
-use borrow.Author.Rules.{rules}
 use Rattle.groups.specs.Code.{one_more}
-use Rattle.groups.proofs.OfCode.{not_counted, counted_more}
+use Rattle.groups.proofs.OfCode.{counted_more}
 use Rattle.groups.proofs.counts.counted_if.Goals as goal
 
 pub returns-in-Nothing : goal.returns-in-Nothing

@@ -1,5 +1,4 @@
 -- `groups::counts::is_one` meets its contract, variant by variant. Assumes nothing.
-use borrow.Author.Rules.{rules}
 use mathlib.Core.Path.{sym, ap}
 use Rattle.groups.specs.Code.{is_one}
 use Rattle.groups.proofs.counts.is_one.Goals as goal

@@ -1,5 +1,4 @@
 -- `groups::counts::is_several` meets its contract, variant by variant. Assumes nothing.
-use borrow.Author.Rules.{rules}
 use mathlib.Core.Path.{sym, ap}
 use Rattle.groups.specs.Code.{is_several}
 use Rattle.groups.proofs.counts.is_several.Goals as goal

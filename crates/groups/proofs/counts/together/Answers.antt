@@ -1,5 +1,4 @@
 -- `groups::counts::together` meets its contract, variant by variant. Assumes nothing.
-use borrow.Author.Rules.{rules}
 use mathlib.Core.Path.{sym, ap}
 use Rattle.groups.specs.Code.{together}
 use Rattle.groups.proofs.OfCode.{with_one_lem}

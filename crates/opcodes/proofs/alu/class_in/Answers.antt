@@ -1,5 +1,4 @@
 -- `opcodes::alu::class_in` meets its contract. Assumes nothing.
-use borrow.Author.Rules.{rules}
 use mathlib.Core.Path.{◌≡◌}
 use Prim.Native.Nat.{ℕ, ◌/◌, ◌%◌}
 use Rattle.opcodes.specs.declared.alu.Unit.{Unit}

@@ -1,5 +1,4 @@
 -- `opcodes::alu::code_at` meets its contract: by the test over all rows. Assumes nothing.
-use borrow.Author.Rules.{rules}
 use mathlib.Core.Path.{ap, ◌∙◌}
 use Prim.Native.Nat.{ℕ, ◌*◌, ◌/◌, ◌%◌, ◌^◌}
 use Rattle.opcodes.proofs.OfTable.{placed, code_placed_lem}

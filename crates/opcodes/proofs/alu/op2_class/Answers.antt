@@ -1,6 +1,5 @@
 -- `opcodes::alu::op2_class` meets its contract: below 256 by the table's test, and the definition has no number from 256 on. Assumes
 -- nothing.
-use borrow.Author.Rules.{rules}
 use mathlib.Core.Path.{refl, ap, ◌∙◌}
 use Prim.Native.Nat.{ℕ, ◌%◌}
 use native.Mathlib.Omega.{arith}

@@ -1,6 +1,5 @@
 -- `opcodes::alu::op3_class` meets its contract: below 32 by the table's test, and the definition has no number from 32 on. Assumes
 -- nothing.
-use borrow.Author.Rules.{rules}
 use mathlib.Core.Path.{refl, ap, ◌∙◌}
 use Prim.Native.Nat.{ℕ, ◌%◌}
 use native.Mathlib.Omega.{arith}

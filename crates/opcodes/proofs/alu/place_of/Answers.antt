@@ -1,5 +1,4 @@
 -- `opcodes::alu::place_of` meets its contract. Assumes nothing.
-use borrow.Author.Rules.{rules}
 use Rattle.opcodes.proofs.OfTable.{place_op2, place_op3}
 use Rattle.opcodes.proofs.alu.place_of.Goals as goal
 

@@ -1,9 +1,7 @@
 -- `opcodes::table::eight_at` meets its contract: no row of an eight is wrong. Assumes nothing.
-use borrow.Author.Rules.{rules}
 use mathlib.Core.Path.{refl}
 use native.Mathlib.Omega.{arith}
 use Rattle.opcodes.specs.Alu.{op2, op3, op2_class, op3_class}
-use Rattle.opcodes.proofs.OfRuns.{none_left}
 use Rattle.opcodes.proofs.OfTable.{op2_rows, op3_rows}
 use Rattle.opcodes.proofs.table.eight_at.Goals as goal
 

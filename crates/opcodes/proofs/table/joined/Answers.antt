@@ -1,5 +1,4 @@
 -- `opcodes::table::joined` meets its contract. Assumes nothing.
-use borrow.Author.Rules.{rules}
 use Rattle.opcodes.specs.Code.{joined_of}
 use Rattle.opcodes.proofs.table.joined.Goals as goal
 

@@ -1,6 +1,5 @@
 -- `report::explanation::compose_explanation` meets its contract: the lines follow one another, and each is made of what the contract's is.
 -- Assumes nothing.
-use borrow.Author.Rules.{rules}
 use Rattle.report.proofs.OfLines.{one_line, six_lines}
 use Rattle.report.proofs.explanation.compose_explanation.Goals as goal
 

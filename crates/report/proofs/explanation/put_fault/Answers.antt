@@ -1,6 +1,5 @@
 -- `report::explanation::put_fault` meets its contract: each arm puts the lines of the fault that it matched. Assumes nothing.
-use borrow.Author.Rules.{rules}
-use Rattle.report.proofs.OfLines.{dash_lines, number_lines}
+use Rattle.report.proofs.OfLines.{number_lines}
 use Rattle.report.proofs.explanation.put_fault.Goals as goal
 
 pub returns-in-Number : goal.returns-in-Number

@@ -1,5 +1,4 @@
 -- `report::explanation::rule_row` meets its contract: a number behind the table has no word of its own, as 0 has none. Assumes nothing.
-use borrow.Author.Rules.{rules}
 use native.Mathlib.Omega.{arith}
 use Rattle.report.proofs.OfRules.{behind_table}
 use Rattle.report.proofs.explanation.rule_row.Goals as goal

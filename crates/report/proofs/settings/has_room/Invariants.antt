@@ -1,11 +1,7 @@
 -- `report::settings::has_room` meets its contract. The loop's invariant: the lines so far were taken off the room. Assumes nothing.
-use borrow.Author.Rules.{rules}
-use mathlib.Core.Path.{◌≡◌, refl, ap, ◌∙◌}
 use Prim.Native.Nat.{◌-◌}
-use native.Mathlib.Omega.{arith}
-use lib.ListN.{length, get_or}
-use Rattle.ascii.specs.Decimal.{decimal}
-use Rattle.report.proofs.OfSettings.{Key, key_at, Fitting, none_taken, keys_taken, values_taken, line-too-long, line_taken}
+use lib.ListN.{length}
+use Rattle.report.proofs.OfSettings.{Fitting}
 use Rattle.report.proofs.settings.has_room.Given as goal
 
 abbrev pub invariant-loop-i : goal.invariant-loop-i

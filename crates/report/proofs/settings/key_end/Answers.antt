@@ -1,10 +1,6 @@
 -- `report::settings::key_end` meets its contract. The loop's invariant: no equals sign was passed. Assumes nothing.
-use borrow.Author.Rules.{rules}
-use mathlib.Core.Path.{refl}
-use Prim.Native.Nat.{◌-◌}
 use native.Mathlib.Omega.{arith}
-use lib.ListN.{length}
-use Rattle.report.proofs.OfSettings.{Within, within_more, within-ends, within_all}
+use Rattle.report.proofs.OfSettings.{within_more, within-ends, within_all}
 use Rattle.report.proofs.settings.key_end.Goals as goal
 
 pub returns-then-keys-end-eq61 : goal.returns-then-keys-end-eq61

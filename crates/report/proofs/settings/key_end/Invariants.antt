@@ -1,10 +1,7 @@
 -- `report::settings::key_end` meets its contract. The loop's invariant: no equals sign was passed. Assumes nothing.
-use borrow.Author.Rules.{rules}
-use mathlib.Core.Path.{refl}
 use Prim.Native.Nat.{◌-◌}
-use native.Mathlib.Omega.{arith}
 use lib.ListN.{length}
-use Rattle.report.proofs.OfSettings.{Within, within_more, within-ends, within_all}
+use Rattle.report.proofs.OfSettings.{Within}
 use Rattle.report.proofs.settings.key_end.Given as goal
 
 abbrev pub invariant-loop-end : goal.invariant-loop-end

@@ -1,10 +1,8 @@
 -- `report::settings::put_settings` meets its contract. The loop's invariant: the first bytes of the buffer are the lines so far, and with
 -- the lines that are left they are all. Assumes nothing.
-use borrow.Author.Rules.{rules}
 use Prim.Native.Nat.{◌-◌}
-use native.Mathlib.Omega.{arith}
 use lib.ListN.{length}
-use Rattle.report.proofs.OfSettings.{Key, key_at, Putting, none_put, keys_put, values_put, line-room, line-put}
+use Rattle.report.proofs.OfSettings.{Putting}
 use Rattle.report.proofs.settings.put_settings.Given as goal
 
 abbrev pub invariant-loop-i : goal.invariant-loop-i

@@ -1,11 +1,7 @@
 -- `report::settings::write_settings` meets its contract: the lines are put at the start of the buffer, or nothing is. Assumes nothing.
-use borrow.Author.Rules.{rules}
 use borrow.Author.Tests.{leb-true, leb-false}
 use mathlib.Core.Path.{sym, ◌∙◌}
-use Prim.Native.Nat.{◌≤◌, ◌<◌}
 use native.Mathlib.Omega.{arith}
-use lib.ListN.{length}
-use Rattle.report.specs.Settings.{keys_in, settings_text}
 use Rattle.report.proofs.OfBuffer.{whole_buffer, whole_length, no_room_answer, no_room_buffer}
 use Rattle.report.proofs.settings.write_settings.Goals as goal
 

@@ -1,9 +1,6 @@
 -- `report::text::decimal` meets its contract. The loop's invariant: the digits from `first` on are the number's last ones, and those
 -- of `rest` are still to come. Assumes nothing.
-use borrow.Author.Rules.{rules}
-use native.Mathlib.Omega.{arith}
-use lib.ListN.{length-set}
-use Rattle.report.proofs.OfDigits.{Spelt, none_spelt, place_left, one_more_spelt, all_spelt}
+use Rattle.report.proofs.OfDigits.{Spelt}
 use Rattle.report.proofs.text.decimal.Given as goal
 
 abbrev pub invariant-loop-rest : goal.invariant-loop-rest

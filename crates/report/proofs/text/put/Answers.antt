@@ -1,8 +1,6 @@
 -- `report::text::put` meets its contract. The loop's invariant: the first `i` bytes are put. Assumes nothing.
-use Prim.Native.Nat.{◌-◌}
 use borrow.Author.Rules.{rules}
-use lib.ListN.{length}
-use Rattle.report.proofs.OfBuffer.{Pasted, none_pasted, one_more_pasted, all_pasted}
+use Rattle.report.proofs.OfBuffer.{one_more_pasted}
 use Rattle.report.proofs.text.put.Goals as goal
 
 pub loop-i-preserved : goal.loop-i-preserved

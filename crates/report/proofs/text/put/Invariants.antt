@@ -1,8 +1,7 @@
 -- `report::text::put` meets its contract. The loop's invariant: the first `i` bytes are put. Assumes nothing.
 use Prim.Native.Nat.{◌-◌}
-use borrow.Author.Rules.{rules}
 use lib.ListN.{length}
-use Rattle.report.proofs.OfBuffer.{Pasted, none_pasted, one_more_pasted, all_pasted}
+use Rattle.report.proofs.OfBuffer.{Pasted}
 use Rattle.report.proofs.text.put.Given as goal
 
 abbrev pub invariant-loop-i : goal.invariant-loop-i

@@ -1,10 +1,5 @@
 -- `report::text::put_line` meets its contract: key, digits and line feed follow one another. Assumes nothing.
-use borrow.Author.Rules.{rules}
-use mathlib.Core.Path.{◌≡◌, ap}
-use Prim.Native.Nat.{◌-◌}
 use native.Mathlib.Omega.{arith}
-use lib.ListN.{length, take, drop}
-use Rattle.ascii.specs.Decimal.{decimal}
 use Rattle.report.proofs.OfBuffer.{as_bytes, both_appended}
 use Rattle.report.proofs.OfDigits.{spelt_part}
 use Rattle.report.proofs.text.put_line.Goals as goal

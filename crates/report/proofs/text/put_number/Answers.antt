@@ -1,5 +1,4 @@
 -- `report::text::put_number` meets its contract: a number of 64 bits has 20 digits at most. Assumes nothing.
-use borrow.Author.Rules.{rules}
 use mathlib.Core.List.{◌++◌}
 use native.Mathlib.Omega.{arith}
 use lib.ListN.{length-append}

@@ -1,7 +1,6 @@
 -- `section::export_rule::is_bad_register` meets its contract: relative, or the last one named. Assumes nothing.
 use mathlib.Core.Path.{◌∙◌}
 use Prim.Native.Nat.{◌+◌}
-use native.Mathlib.Omega.{arith}
 use lib.Dec.{leb}
 use Rattle.section.proofs.OfTests.{is_eq, is_ne, register_relative, register_named}
 use Rattle.section.proofs.export_rule.is_bad_register.Goals as goal

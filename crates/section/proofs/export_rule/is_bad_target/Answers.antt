@@ -1,5 +1,4 @@
 -- `section::export_rule::is_bad_target` meets its contract: by the kind. Assumes nothing.
-use borrow.Author.Rules.{rules}
 use mathlib.Core.Path.{ap, ◌∙◌}
 use mathlib.Core.Bool.{not}
 use Rattle.section.specs.Rules.{bad_target}

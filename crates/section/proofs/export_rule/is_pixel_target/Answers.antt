@@ -1,7 +1,6 @@
 -- `section::export_rule::is_pixel_target` meets its contract: test by test. Assumes nothing.
 use mathlib.Core.Path.{ap, ◌∙◌}
 use Prim.Native.Nat.{ℕ}
-use native.Mathlib.Omega.{arith}
 use lib.Dec.{eqb}
 use Rattle.section.proofs.OfTests.{is_eq, is_ne, is_most, is_more, pixel_type, pixel-colour, pixel-other, pixel-depth}
 use Rattle.section.proofs.export_rule.is_pixel_target.Goals as goal

@@ -1,7 +1,6 @@
 -- `section::export_rule::is_vertex_target` meets its contract: test by test. Assumes nothing.
 use mathlib.Core.Path.{◌∙◌}
 use Prim.Native.Nat.{◌+◌}
-use native.Mathlib.Omega.{arith}
 use lib.Dec.{leb}
 use Rattle.section.proofs.OfTests.{is_eq, is_ne, is_least, is_less, position_low, position_last, vertex_type, parameter_last}
 use Rattle.section.proofs.export_rule.is_vertex_target.Goals as goal

@@ -1,5 +1,4 @@
 -- `walk::stacks::branch_differs` meets its contract: by the kind of branch. Assumes nothing.
-use borrow.Author.Rules.{rules}
 use mathlib.Core.Path.{ap}
 use mathlib.Core.Bool.{not}
 use Rattle.walk.specs.CodeRows.{row_differs}

@@ -1,5 +1,4 @@
 -- `walk::stacks::differ` meets its contract: by what the pair does. Assumes nothing.
-use borrow.Author.Rules.{rules}
 use Rattle.walk.specs.CodeRows.{row_differs}
 use Rattle.walk.proofs.stacks.differ.Goals as goal
 

@@ -1,5 +1,4 @@
 -- `walk::steps::end_loop` meets its contract, test by test. Assumes nothing.
-use borrow.Author.Rules.{rules}
 use Rattle.walk.proofs.OfSteps.{end_marked, end_outside, end_low, end_below}
 use Rattle.walk.proofs.steps.end_loop.Goals as goal
 

@@ -1,5 +1,4 @@
 -- `walk::steps::enter_loop` meets its contract, test by test. Assumes nothing.
-use borrow.Author.Rules.{rules}
 use native.Mathlib.Omega.{arith}
 use Rattle.walk.proofs.OfSteps.{enter_deep, enter_room}
 use Rattle.walk.proofs.steps.enter_loop.Goals as goal

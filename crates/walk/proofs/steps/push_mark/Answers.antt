@@ -1,5 +1,4 @@
 -- `walk::steps::push_mark` meets its contract, test by test. Assumes nothing.
-use borrow.Author.Rules.{rules}
 use native.Mathlib.Omega.{arith}
 use Rattle.walk.proofs.OfSteps.{push_deep, push_many, push_room}
 use Rattle.walk.proofs.steps.push_mark.Goals as goal

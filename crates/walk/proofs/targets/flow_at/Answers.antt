@@ -1,9 +1,8 @@
 -- `walk::targets::flow_at` meets its contract: a pair outside of the words does nothing. Assumes nothing.
 use borrow.Author.Rules.{rules}
 use Prim.Native.Nat.{◌<◌, ◌^◌}
-use native.Mathlib.Omega.{arith}
 use lib.ListN.{length}
-use Rattle.walk.proofs.OfTests.{pair_outside, low-inside, pair_inside}
+use Rattle.walk.proofs.OfTests.{pair_outside, pair_inside}
 use Rattle.walk.proofs.targets.flow_at.Goals as goal
 
 pub returns-then-at-words : goal.returns-then-at-words

@@ -1,5 +1,4 @@
 -- `walk::targets::is_loop_end` meets its contract: by what the pair does. Assumes nothing.
-use borrow.Author.Rules.{rules}
 use Rattle.walk.specs.Rules.{is_loop_end}
 use Rattle.walk.proofs.targets.is_loop_end.Goals as goal
 

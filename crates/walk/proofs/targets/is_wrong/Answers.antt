@@ -1,5 +1,4 @@
 -- `walk::targets::is_wrong` meets its contract: by what the pair does. Assumes nothing.
-use borrow.Author.Rules.{rules}
 use Rattle.walk.specs.Rules.{wrong_target}
 use Rattle.walk.proofs.targets.is_wrong.Goals as goal
 

@@ -1,5 +1,4 @@
 -- `walk::targets::is_wrong_branch` meets its contract: by the kind of branch. Assumes nothing.
-use borrow.Author.Rules.{rules}
 use mathlib.Core.Path.{ap}
 use mathlib.Core.Bool.{not}
 use Rattle.walk.specs.Rules.{wrong_target}
