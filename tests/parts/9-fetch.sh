@@ -224,8 +224,8 @@ holds "fields of three forms are tried, but for the numbers of instructions" [ "
 taken() {
     sed -n "/^$1 =/,/^\$/p" crates/opcodes/specs/Numbers.antt | grep -o '([0-9]*, "[A-Z0-9_]*")' | sed 's/(\([0-9]*\),.*/\1/'
 }
-taken textureFetches >"$desk/tex.taken"
-taken vertexFetches >"$desk/vtx.taken"
+taken texture_fetches >"$desk/tex.taken"
+taken vertex_fetches >"$desk/vtx.taken"
 holds "the definitions take 27 texture fetches and 2 vertex fetches" [ "$(wc -l <"$desk/tex.taken") $(paste -sd ' ' "$desk/vtx.taken")" = "27 0 1" ]
 number=0
 while [ $number -lt 32 ]; do
