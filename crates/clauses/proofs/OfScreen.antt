@@ -17,7 +17,7 @@ use Rattle.opcodes.specs.Code.{code_of}
 use Rattle.opcodes.specs.declared.alu.Issue.TheVariants.{Predicate, Kill, Mova, Reduction}
 use Rattle.grants.specs.declared.Limits.{Limits}
 use Rattle.grants.specs.Grants.{all_granted}
-use Rattle.instructions.specs.Instruction.{class_of, bad_field, has_relative, literals, named}
+use Rattle.instructions.specs.Instruction.{class_of, bad_field, has_relative, named}
 use Rattle.screens.specs.Code.{starts_of, widths_of, broken_by, more_literals}
 use Rattle.screens.proofs.OfGaps.{unbroken_field, unbroken_grants, unbroken_literals}
 use Rattle.groups.specs.declared.First.TheVariants.{Nowhere}

@@ -9,7 +9,6 @@ use lib.Seq.{sets}
 use borrow.Author.Tests.{not-true, not-false}
 use Rattle.laws.proofs.OfTests.{both}
 use Rattle.units.specs.Units.{words}
-use Rattle.microcode.specs.declared.Encoded.{Encoded}
 use Rattle.microcode.specs.declared.Encoded.TheVariants.{NoRecord, NoRoom, Done}
 use Rattle.fetch_codec.specs.declared.Fetch.{Fetch}
 use Rattle.fetch_codec.specs.Fetch.{word0_fits, word1_fits, word2_fits, fields_fit, form_taken, encodable, words_of, word0_of, word1_of, word2_of}

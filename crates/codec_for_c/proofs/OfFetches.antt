@@ -1,8 +1,8 @@
 -- The codec for fetches through values: by what its code tests and calls, and the round trips. Both rest on those of crate fetch_codec; what is
 -- new is that a fetch is what its values say. Assumes nothing.
 use mathlib.Core.Path.{◌≡◌, refl, sym, ap, ◌∙◌, subst}
-use mathlib.Core.Bool.{Bool, true, false, ◌&&◌}
-use mathlib.Core.List.{List, [], ◌∷◌, ◌++◌}
+use mathlib.Core.Bool.{true, false, ◌&&◌}
+use mathlib.Core.List.{List, ◌++◌}
 use Prim.Native.Nat.{ℕ, ◌^◌, ◌≤◌, ◌<◌}
 use native.Mathlib.Omega.{arith}
 use lib.Dec.{eqb, leb}
@@ -13,10 +13,8 @@ use Rattle.units.specs.Units.{words}
 use Rattle.checks.specs.Verdict.{verdict_number}
 use Rattle.opcodes.specs.declared.cf.Control.TheVariants as control
 use Rattle.opcodes.specs.Numbers.{cf, cf_control}
-use Rattle.formats.specs.Tex as tex
-use Rattle.formats.specs.Vtx as vtx
 use Rattle.microcode.specs.declared.Encoded.{Encoded}
-use Rattle.microcode.specs.declared.Encoded.TheVariants.{NoRecord, NoRoom, Done}
+use Rattle.microcode.specs.declared.Encoded.TheVariants.{NoRecord, NoRoom}
 use Rattle.microcode.specs.Buffer.{encoded_verdict}
 use Rattle.fetch_codec.specs.declared.Fetch.{Fetch}
 use Rattle.fetch_codec.specs.declared.Fetch.TheVariants.{Tex, VtxGpr, VtxSem}

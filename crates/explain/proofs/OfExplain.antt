@@ -9,7 +9,6 @@ use borrow.Author.Tests.{not-true, eq-eqb, ne_eqb}
 use Rattle.laws.proofs.OfCases.{impossible}
 use Rattle.units.specs.declared.Quadwords.{Quadwords}
 use Rattle.units.specs.declared.Slots.{Slots}
-use Rattle.formats.specs.Fields.{◌of◌}
 use Rattle.checks.specs.declared.AtFault.{AtFault}
 use Rattle.checks.specs.declared.AtFault.TheVariants.{NoNumber}
 use Rattle.checks.specs.declared.Explanation.{Explanation}

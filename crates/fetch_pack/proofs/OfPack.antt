@@ -1,19 +1,16 @@
 -- A pack in bytes: taken or not by its length; and what became of its words is what becomes of its bytes. Assumes nothing.
 use mathlib.Core.Path.{◌≡◌, refl, sym, ap, ◌∙◌, subst}
-use mathlib.Core.Logic.{⊎_elim}
-use mathlib.Core.Bool.{true, false, ◌&&◌}
+use mathlib.Core.Bool.{true, ◌&&◌}
 use mathlib.Core.List.{List, [], ◌∷◌, ◌++◌, append-nil, append_assoc}
 use mathlib.Core.Option.{Option, none, some}
 use Prim.Native.Nat.{ℕ, zero, suc, ◌+◌, ◌*◌, ◌/◌, ◌%◌, ◌^◌, ◌≤◌, ◌<◌, min}
-use native.Mathlib.Nat.{min-eq_left, min-eq_right}
+use native.Mathlib.Nat.{min-eq_left}
 use native.Mathlib.Omega.{arith}
 use lib.ListN.{length, get_or, take, drop, length-append, drop_of_length-le}
 use lib.Seq.{take_all, take_at, drop_at, length-take-le, sets, sets-eq, length-sets}
 use lib.Dec.{leb}
 use borrow.Author.Tests.{le-leb, lt-leb, leb-true, eq-eqb, ne_eqb}
 use Rattle.laws.proofs.OfTests.{both, by_test_lem}
-use types.Run.{OneOf}
-use denote.Enum.Declared.{tag_of}
 use Rattle.units.specs.declared.Words.{Words}
 use Rattle.card.specs.Card.{quads_allowed}
 use Rattle.fetch_codec.specs.declared.Clause.{Clause}
@@ -26,7 +23,6 @@ use Rattle.fetch_text.specs.declared.Fault.{Fault}
 use Rattle.fetch_text.specs.declared.Edit.{Edit}
 use Rattle.fetch_text.specs.declared.Edit.TheVariants as edit
 use Rattle.fetch_text.specs.Edit.{lines_in, first_fault, answer_to, words_with, edit_of, edited_words, edited, Promised}
-use Rattle.fetch_text.specs.contracts.Edit as edit-type
 use Rattle.input.specs.Words.{words_in, bytes_of, stored_in}
 use Rattle.input.proofs.OfWords.{words_length, words_back, bytes_back, bytes_take, bytes_drop}
 use Rattle.laws.proofs.OfCases.{impossible}

@@ -1,5 +1,4 @@
 -- `bench_clause::pack` meets its contract, part by part. Assumes nothing.
-use borrow.Author.Rules.{rules}
 use Prim.Native.Nat.{◌+◌, ◌*◌, ◌%◌, ◌^◌}
 use Rattle.bench_clause.specs.Call.{answer_of}
 use Rattle.bench_clause.proofs.pack.Goals as goal

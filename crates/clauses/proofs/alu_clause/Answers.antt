@@ -1,7 +1,7 @@
 -- `clauses::alu_clause` meets its contract: accepted at a glance, or by its first fault. Assumes nothing.
 use Rattle.std.proofs.Common.{ap, not}
 use Rattle.std.proofs.Common.{sym, ◌∙◌}
-use borrow.Author.Tests.{not-true, not-false}
+use borrow.Author.Tests.{not-true}
 use Rattle.clauses.proofs.OfClause.{outside}
 use Rattle.clauses.proofs.alu_clause.Goals as goal
 

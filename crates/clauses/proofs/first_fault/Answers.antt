@@ -1,7 +1,7 @@
 -- `clauses::first_fault` meets its contract. The loop's invariant: the groups passed break nothing, and the verdict is that of the groups
 -- left. Assumes nothing.
 use Rattle.std.proofs.Common.{rules}
-use Rattle.clauses.proofs.OfPlace.{Going, going_none, readable, going-broken, going_less, going_next, going_done}
+use Rattle.clauses.proofs.OfPlace.{going_none, readable, going-broken, going_less, going_next, going_done}
 use Rattle.clauses.proofs.first_fault.Goals as goal
 
 pub loop-slots-init : goal.loop-slots-init

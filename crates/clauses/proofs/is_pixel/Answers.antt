@@ -1,5 +1,5 @@
 -- `clauses::is_pixel` meets its contract, kind by kind. Assumes nothing.
-use Rattle.std.proofs.Common.{sym, ap, rules}
+use Rattle.std.proofs.Common.{sym, ap}
 use Rattle.clauses.specs.Clause.{is_pixel}
 use Rattle.clauses.proofs.is_pixel.Goals as goal
 

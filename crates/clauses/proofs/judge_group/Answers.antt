@@ -1,6 +1,6 @@
 -- `clauses::judge_group` meets its contract. Assumes nothing.
 use Rattle.std.proofs.Common.{ap, not}
-use Rattle.std.proofs.Common.{◌^◌, ◌<◌, arith, rules}
+use Rattle.std.proofs.Common.{◌^◌, ◌<◌, arith}
 use Rattle.clauses.proofs.OfStep.{step-no-size, step-too-long, step-broken, step-passed}
 use Rattle.clauses.proofs.judge_group.Goals as goal
 

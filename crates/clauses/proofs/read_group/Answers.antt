@@ -1,9 +1,8 @@
 -- `clauses::read_group` meets its contract. The loop's invariant: so many instructions are read, none of them the last. Assumes nothing.
 use Rattle.std.proofs.Common.{ap, not}
-use Rattle.std.proofs.Common.{◌≡◌, ◌-◌, ◌*◌, sym, ◌∙◌, arith, rules, ltb-false, ltb-true}
+use Rattle.std.proofs.Common.{sym, ◌∙◌, rules, ltb-false, ltb-true}
 use borrow.Author.Tests.{not-true, not-false}
-use Rattle.units.specs.declared.Quadwords.{Quadwords}
-use Rattle.clauses.proofs.OfRead.{Reading, frame, first_high, low_there, high_there, reading_none, reading-short, reading-five, reading-last, reading-next}
+use Rattle.clauses.proofs.OfRead.{frame, first_high, low_there, high_there, reading_none, reading-short, reading-five, reading-last, reading-next}
 use Rattle.clauses.proofs.read_group.Goals as goal
 
 pub loop-j-init : goal.loop-j-init

@@ -1,8 +1,7 @@
 -- `clauses::read_group` meets its contract. The loop's invariant: so many instructions are read, none of them the last. Assumes nothing.
-use Rattle.std.proofs.Common.{◌≡◌, ◌-◌, ◌*◌, sym, ◌∙◌, arith, rules, ltb-false, ltb-true}
-use borrow.Author.Tests.{not-true, not-false}
+use Rattle.std.proofs.Common.{◌≡◌, ◌-◌, ◌*◌}
 use Rattle.units.specs.declared.Quadwords.{Quadwords}
-use Rattle.clauses.proofs.OfRead.{Reading, frame, first_high, low_there, high_there, reading_none, reading-short, reading-five, reading-last, reading-next}
+use Rattle.clauses.proofs.OfRead.{Reading}
 use Rattle.clauses.proofs.read_group.Given as goal
 
 abbrev pub invariant-loop-j : goal.invariant-loop-j

@@ -1,8 +1,7 @@
 -- `codec_for_c::put` meets its contract. The loop's invariant: the first `i` elements are put. Assumes nothing.
 use Prim.Native.Nat.{◌-◌}
-use borrow.Author.Rules.{rules}
 use lib.ListN.{length}
-use Rattle.codec_for_c.proofs.OfPut.{Put, none_put, one_more_put, all_put}
+use Rattle.codec_for_c.proofs.OfPut.{Put}
 use Rattle.codec_for_c.proofs.put.Given as goal
 
 abbrev pub invariant-loop-i : goal.invariant-loop-i

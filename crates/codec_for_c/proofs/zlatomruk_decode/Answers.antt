@@ -1,5 +1,4 @@
 -- `codec_for_c::zlatomruk_decode` meets its contract, from what it calls. Assumes nothing.
-use borrow.Author.Rules.{rules}
 use mathlib.Core.Path.{ap}
 use native.Mathlib.Omega.{arith}
 use Rattle.microcode.specs.Buffer.{decoded_from}

@@ -1,5 +1,4 @@
 -- `codec_for_c::zlatomruk_decode_fetch` meets its contract, from what it calls. Assumes nothing.
-use borrow.Author.Rules.{rules}
 use mathlib.Core.Path.{ap}
 use native.Mathlib.Omega.{arith}
 use Rattle.fetch_codec.specs.Buffer.{decoded_from}

@@ -1,5 +1,4 @@
 -- `codec_for_c::zlatomruk_encode` meets its contract, from what it calls. Assumes nothing.
-use borrow.Author.Rules.{rules}
 use native.Mathlib.Omega.{arith}
 use Rattle.codec_for_c.proofs.OfCodec.{encode_short, encode_other_form, encode_record}
 use Rattle.codec_for_c.proofs.OfValues.{encode_promises}

@@ -1,5 +1,4 @@
 -- `codec_for_c::zlatomruk_encode_fetch` meets its contract, from what it calls. Assumes nothing.
-use borrow.Author.Rules.{rules}
 use native.Mathlib.Omega.{arith}
 use Rattle.units.specs.Units.{words}
 use Rattle.fetch_codec.specs.Fetch.{words_of}

@@ -1,5 +1,4 @@
 -- `explain::explain_bytes` meets its contract: by what the card says. Assumes nothing.
-use borrow.Author.Rules.{rules}
 use mathlib.Core.Path.{sym, ◌∙◌}
 use Rattle.explain.proofs.OfExplain.{whole_card, bad_card}
 use Rattle.explain.proofs.explain_bytes.Goals as goal

@@ -1,5 +1,4 @@
 -- `explain::explain_files` meets its contract: by what the card says. Assumes nothing.
-use borrow.Author.Rules.{rules}
 use Rattle.explain.proofs.OfExplain.{files_whole, files_line}
 use Rattle.explain.proofs.explain_files.Goals as goal
 

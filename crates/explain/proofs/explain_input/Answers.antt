@@ -1,5 +1,4 @@
 -- `explain::explain_input` meets its contract: by what the card says; what stands behind the card is the pack. Assumes nothing.
-use borrow.Author.Rules.{rules}
 use Rattle.laws.proofs.OfLists.{to_the_end}
 use Rattle.input.proofs.OfInput.{taken-within}
 use Rattle.explain.proofs.OfExplain.{input_whole, input_line}

@@ -1,9 +1,6 @@
 -- `fetch_pack::edit_in` meets its contract: the words that are edited are the pack's, and stored where the edit is done. Assumes nothing.
-use borrow.Author.Rules.{rules}
 use mathlib.Core.Path.{◌∙◌}
 use native.Mathlib.Nat.{min-eq_left}
-use native.Mathlib.Omega.{arith}
-use lib.ListN.{length-take}
 use Rattle.input.proofs.OfWords.{whole_loaded}
 use Rattle.fetch_pack.proofs.OfPack.{edit_refused, edit_stored}
 use Rattle.fetch_pack.proofs.edit_in.Goals as goal

@@ -1,5 +1,4 @@
 -- `fetch_pack::show_fetch` meets its contract, by the pack's length. Assumes nothing.
-use borrow.Author.Rules.{rules}
 use mathlib.Core.Path.{ap, ◌∙◌}
 use native.Mathlib.Omega.{arith}
 use Rattle.fetch_pack.specs.declared.PackShown.TheVariants.{Is}

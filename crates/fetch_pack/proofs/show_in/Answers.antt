@@ -1,8 +1,6 @@
 -- `fetch_pack::show_in` meets its contract: the words that are shown are the pack's. Assumes nothing.
-use borrow.Author.Rules.{rules}
 use mathlib.Core.Path.{ap, ◌∙◌}
 use native.Mathlib.Omega.{arith}
-use lib.ListN.{length-take}
 use Rattle.fetch_codec.specs.Buffer.{decode_of}
 use Rattle.fetch_text.specs.Text.{shown_of, shown_after}
 use Rattle.input.proofs.OfWords.{whole_loaded}

@@ -1,8 +1,6 @@
 -- `input::judge_in` meets its contract: the words that the judge is handed are the pack's. Assumes nothing.
-use borrow.Author.Rules.{rules}
 use mathlib.Core.Path.{ap, ◌∙◌}
 use native.Mathlib.Omega.{arith}
-use lib.ListN.{length-take}
 use Rattle.judge.specs.Judge.{judgement}
 use Rattle.input.proofs.OfWords.{whole_loaded}
 use Rattle.input.proofs.judge_in.Goals as goal

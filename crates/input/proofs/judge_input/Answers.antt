@@ -1,5 +1,4 @@
 -- `input::judge_input` meets its contract: by the card's answer; what stands behind the card is the pack. Assumes nothing.
-use borrow.Author.Rules.{rules}
 use Rattle.laws.proofs.OfLists.{to_the_end}
 use Rattle.input.proofs.OfInput.{bad-line-answer, taken-within, read-in-range, whole-answer}
 use Rattle.input.proofs.judge_input.Goals as goal

@@ -1,5 +1,4 @@
 -- `input::report_input` meets its contract: the report on what was judged, and what its release line tells. Assumes nothing.
-use borrow.Author.Rules.{rules}
 use mathlib.Core.Path.{◌∙◌, ap, sym}
 use Rattle.report.specs.Buffer.{written_of, buffer_after}
 use Rattle.input.proofs.OfInput.{report_on_lem}

@@ -1,6 +1,5 @@
 -- `input::verdict_in_range` meets its contract: by the length. Assumes nothing.
 use Rattle.std.proofs.Common.{ap, not}
-use borrow.Author.Rules.{rules}
 use Rattle.input.proofs.OfInput.{bad-length, few_words, judged-verdict}
 use Rattle.input.proofs.verdict_in_range.Goals as goal
 

@@ -1,6 +1,4 @@
 -- `input::verdict_on` meets its contract: by the test of the card. Assumes nothing.
-use borrow.Author.Rules.{rules}
-use mathlib.Core.Path.{sym, ◌∙◌}
 use Rattle.input.proofs.OfInput.{bad_card}
 use Rattle.input.proofs.verdict_on.Goals as goal
 

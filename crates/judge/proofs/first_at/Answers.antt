@@ -1,5 +1,4 @@
 -- `judge::first_at` meets its contract: what was found at the place, and its row written. Assumes nothing.
-use borrow.Author.Rules.{rules}
 use Rattle.judge.proofs.OfPass.{stepped}
 use Rattle.judge.proofs.first_at.Goals as goal
 

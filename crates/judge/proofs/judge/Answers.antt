@@ -1,5 +1,4 @@
 -- `judge::judge` meets its contract: demand 2, and demand 3 with it. Assumes nothing.
-use borrow.Author.Rules.{rules}
 use Rattle.judge.proofs.OfJudge.{bad_card, bad-length, no_end_lem, in_words, by-passes}
 use Rattle.judge.proofs.judge.Goals as goal
 

@@ -1,5 +1,4 @@
 -- `judge::judge_bytes` meets its contract, from what the card and the judge say. Assumes nothing.
-use borrow.Author.Rules.{rules}
 use Rattle.judge.proofs.OfJudge.{by_card, by_line}
 use Rattle.judge.proofs.judge_bytes.Goals as goal
 

@@ -1,5 +1,4 @@
 -- `judge::passes_with` meets its contract: the first pass, and where it is clean the second. Assumes nothing.
-use borrow.Author.Rules.{rules}
 use mathlib.Core.Path.{◌∙◌}
 use native.Mathlib.Numerals.{add-one}
 use native.Mathlib.Omega.{arith}

@@ -1,5 +1,4 @@
 -- `judge::place_ahead` meets its contract, 4 to 15 with 22, and then 16 and 17. Assumes nothing.
-use borrow.Author.Rules.{rules}
 use Rattle.judge.proofs.OfPass.{flow_here, found_pair, found_stack}
 use Rattle.judge.proofs.place_ahead.Goals as goal
 

@@ -1,5 +1,4 @@
 -- `judge_for_c::packed_number` meets its contract: the sum is the row of fields. Assumes nothing.
-use borrow.Author.Rules.{rules}
 use native.Mathlib.Omega.{arith}
 use Rattle.judge_for_c.specs.Packed.{packed}
 use Rattle.judge_for_c.proofs.packed_number.Goals as goal

@@ -1,5 +1,5 @@
 -- `clauses::screen::breaks_counted` meets its contract, question by question. Assumes nothing.
-use Rattle.std.proofs.Common.{◌+◌, ◌-◌, ◌/◌, ◌%◌, not, ◌&&◌, ltb, ◌∙◌, true≢false, arith, rules}
+use Rattle.std.proofs.Common.{◌+◌, ◌-◌, ◌/◌, ◌%◌, not, ◌&&◌, ltb, ◌∙◌}
 use Rattle.units.specs.Units.{quadwords}
 use Rattle.instructions.specs.Instruction.{has_relative}
 use Rattle.groups.specs.Group.{any_below}

@@ -1,6 +1,6 @@
 -- `clauses::screen::has_relative` meets its contract. The loop's invariant: so far it is whether one of the instructions passed has a relative
 -- bit. Assumes nothing.
-use Rattle.std.proofs.Common.{◌≡◌, ℕ, ◌-◌, ◌≤◌, Bool, List, refl, ap, ◌∙◌, arith}
+use Rattle.std.proofs.Common.{◌≡◌, ℕ, Bool, List, refl, ap, ◌∙◌, arith}
 use Rattle.units.specs.Units.{quadwords}
 use Rattle.instructions.specs.Instruction.{has_relative}
 use Rattle.groups.specs.Group.{any_below}

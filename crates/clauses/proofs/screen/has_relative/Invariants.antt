@@ -1,11 +1,10 @@
 -- `clauses::screen::has_relative` meets its contract. The loop's invariant: so far it is whether one of the instructions passed has a relative
 -- bit. Assumes nothing.
-use Rattle.std.proofs.Common.{◌≡◌, ℕ, ◌-◌, ◌≤◌, Bool, List, refl, ap, ◌∙◌, arith}
+use Rattle.std.proofs.Common.{◌≡◌, ◌-◌, ◌≤◌}
 use Rattle.units.specs.Units.{quadwords}
 use Rattle.instructions.specs.Instruction.{has_relative}
 use Rattle.groups.specs.Group.{any_below}
 use Rattle.clauses.specs.Clause.{low_of, high_of}
-use Rattle.clauses.proofs.OfScreen.{low_at_lem, high_at_lem, any_none, any_more}
 use Rattle.clauses.proofs.screen.has_relative.Given as goal
 
 abbrev pub invariant-loop-j : goal.invariant-loop-j

@@ -1,13 +1,8 @@
 -- `clauses::screen::is_clean` meets its contract. The loop's invariant: the glance stands where the groups before break nothing, and what is kept
 -- says what has been seen of the one under way; behind the clause's end nothing is said. Assumes nothing.
-use Rattle.std.proofs.Common.{◌≡◌, ◌+◌, ◌-◌, ◌<◌, ◌≤◌, ◌&&◌, eqb, sym, refl, ◌∙◌, arith, rules, eqb-true}
+use Rattle.std.proofs.Common.{◌+◌, ◌<◌, ◌&&◌, eqb, sym, refl, ◌∙◌, arith, rules, eqb-true}
 use mathlib.Core.Path.{transport}
-use mathlib.Core.Bool.{false≢true}
-use Rattle.units.specs.declared.Quadwords.{Quadwords}
-use Rattle.units.specs.declared.Slots.{Slots}
 use Rattle.laws.proofs.OfTests.{both}
-use Rattle.grants.specs.declared.Limits.{Limits}
-use Rattle.screens.specs.Code.{starts_of, widths_of}
 use Rattle.clauses.proofs.OfScreen.{Glancing, glancing_none, glancing-done, issued-small, glancing-ends, glancing-step, reach, ended}
 use Rattle.clauses.proofs.screen.is_clean.Goals as goal
 

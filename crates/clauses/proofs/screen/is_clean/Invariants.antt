@@ -1,14 +1,11 @@
 -- `clauses::screen::is_clean` meets its contract. The loop's invariant: the glance stands where the groups before break nothing, and what is kept
 -- says what has been seen of the one under way; behind the clause's end nothing is said. Assumes nothing.
-use Rattle.std.proofs.Common.{◌≡◌, ◌+◌, ◌-◌, ◌<◌, ◌≤◌, ◌&&◌, eqb, sym, refl, ◌∙◌, arith, rules, eqb-true}
-use mathlib.Core.Path.{transport}
-use mathlib.Core.Bool.{false≢true}
+use Rattle.std.proofs.Common.{◌≡◌, ◌+◌, ◌-◌, ◌≤◌}
 use Rattle.units.specs.declared.Quadwords.{Quadwords}
 use Rattle.units.specs.declared.Slots.{Slots}
-use Rattle.laws.proofs.OfTests.{both}
 use Rattle.grants.specs.declared.Limits.{Limits}
 use Rattle.screens.specs.Code.{starts_of, widths_of}
-use Rattle.clauses.proofs.OfScreen.{Glancing, glancing_none, glancing-done, issued-small, glancing-ends, glancing-step, reach, ended}
+use Rattle.clauses.proofs.OfScreen.{Glancing}
 use Rattle.clauses.proofs.screen.is_clean.Given as goal
 
 abbrev pub invariant-loop-at : goal.invariant-loop-at

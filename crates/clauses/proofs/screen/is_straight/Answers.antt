@@ -1,5 +1,5 @@
 -- `clauses::screen::is_straight` meets its contract. Assumes nothing.
-use Rattle.std.proofs.Common.{◌≡◌, ◌+◌, ◌*◌, ◌∙◌, arith, rules}
+use Rattle.std.proofs.Common.{◌≡◌, ◌+◌, ◌*◌, ◌∙◌, arith}
 use Rattle.units.specs.Units.{quadwords}
 use Rattle.groups.specs.Group.{is_alike}
 use Rattle.clauses.specs.Clause.{high_of}

@@ -1,5 +1,5 @@
 -- `clauses::screen::weight` meets its contract. Assumes nothing.
-use Rattle.std.proofs.Common.{arith, rules}
+use Rattle.std.proofs.Common.{arith}
 use Rattle.clauses.proofs.OfScreen.{weighed}
 use Rattle.clauses.proofs.screen.weight.Goals as goal
 

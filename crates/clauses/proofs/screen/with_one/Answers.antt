@@ -1,5 +1,5 @@
 -- `clauses::screen::with_one` meets its contract. Assumes nothing.
-use Rattle.std.proofs.Common.{◌+◌, ◌/◌, ◌%◌, arith}
+use Rattle.std.proofs.Common.{◌/◌, ◌%◌, arith}
 use Rattle.clauses.proofs.OfScreen.{weight_few}
 use Rattle.clauses.proofs.screen.with_one.Goals as goal
 

@@ -1,5 +1,4 @@
 -- `codec_for_c::fetch_words::vtx_word0` meets its contract: values within their widths need no mask. Assumes nothing.
-use borrow.Author.Rules.{rules}
 use mathlib.Core.Path.{refl, ◌∙◌}
 use lib.Bits.{bit_or}
 use Rattle.bits.proofs.OfTables.{lifted_word}

@@ -1,5 +1,4 @@
 -- `codec_for_c::fetch_words::write` meets its contract: the form picks the case. Assumes nothing.
-use borrow.Author.Rules.{rules}
 use borrow.Author.Tests.{eq-eqb, ne_eqb}
 use Rattle.codec_for_c.specs.FetchValues.{fetch_in}
 use Rattle.codec_for_c.proofs.fetch_words.write.Goals as goal

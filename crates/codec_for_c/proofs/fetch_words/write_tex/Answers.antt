@@ -1,11 +1,8 @@
 -- `codec_for_c::fetch_words::write_tex` meets its contract: 21 before 20, and the four words. Assumes nothing.
 use Rattle.std.proofs.Common.{ap, not}
-use borrow.Author.Rules.{rules}
 use native.Mathlib.Omega.{arith}
-use lib.ListN.{set}
-use lib.Seq.{lt-length-set}
 use Rattle.codec_for_c.specs.FetchValues.{tex_in}
-use Rattle.codec_for_c.proofs.OfFetchWords.{no_record, no_room, encodes, four_written, words_fit}
+use Rattle.codec_for_c.proofs.OfFetchWords.{no_record, no_room, four_written}
 use Rattle.codec_for_c.proofs.fetch_words.write_tex.Goals as goal
 
 pub returns-then-not-is_tex : goal.returns-then-not-is_tex

@@ -1,6 +1,5 @@
 -- `codec_for_c::records::write_control` meets its contract: the form picks the case. Assumes nothing.
 use mathlib.Core.Path.{◌≡◌, ◌∙◌}
-use borrow.Author.Rules.{rules}
 use borrow.Author.Tests.{eq-eqb, ne_eqb}
 use native.Mathlib.Omega.{arith}
 use Rattle.microcode.specs.declared.Instruction.TheVariants.{CfAlu, Cf, Export}

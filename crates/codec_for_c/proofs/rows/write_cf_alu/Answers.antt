@@ -1,5 +1,4 @@
 -- `codec_for_c::rows::write_cf_alu` meets its contract: there is room for the longest form or not. Assumes nothing.
-use borrow.Author.Rules.{rules}
 use mathlib.Core.Path.{ap, ◌∙◌}
 use native.Mathlib.Omega.{arith}
 use lib.ListN.{set}

@@ -1,5 +1,4 @@
 -- `explain::instruction::fault_in_bytes` meets its contract: the instruction stands where the verdict points. Assumes nothing.
-use borrow.Author.Rules.{rules}
 use mathlib.Core.Path.{◌∙◌, sym, ap}
 use Rattle.input.specs.Words.{words_in}
 use Rattle.explain.specs.Code.{fault_asked}

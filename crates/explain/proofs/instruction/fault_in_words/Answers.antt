@@ -1,5 +1,4 @@
 -- `explain::instruction::fault_in_words` meets its contract: the instruction stands where the verdict points. Assumes nothing.
-use borrow.Author.Rules.{rules}
 use mathlib.Core.Path.{◌∙◌, sym, ap}
 use Rattle.explain.specs.Code.{fault_asked}
 use Rattle.explain.proofs.OfInstruction.{low_there, high_there, asked_fault}

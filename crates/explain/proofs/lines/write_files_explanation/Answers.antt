@@ -1,5 +1,4 @@
 -- `explain::lines::write_files_explanation` meets its contract: the lines of what was explained. Assumes nothing.
-use borrow.Author.Rules.{rules}
 use mathlib.Core.Path.{◌∙◌, ap}
 use Rattle.report.specs.Buffer.{written_of, buffer_after}
 use Rattle.report.specs.Explanation.{explanation_bytes}

@@ -1,8 +1,6 @@
 -- `input::words::store` meets its contract: word by word, the bytes begin with those of the words so far. Assumes nothing.
-use borrow.Author.Rules.{rules}
-use native.Mathlib.Omega.{arith}
 use Prim.Native.Nat.{◌-◌}
-use Rattle.input.proofs.OfWords.{Storing, none_stored, word_read, place_left, one_more_stored, all_stored}
+use Rattle.input.proofs.OfWords.{Storing}
 use Rattle.input.proofs.words.store.Given as goal
 
 abbrev pub invariant-loop-i : goal.invariant-loop-i

@@ -1,5 +1,4 @@
 -- `input::words::word_at` meets its contract: four bytes, each below 256. Assumes nothing.
-use borrow.Author.Rules.{rules}
 use native.Mathlib.Omega.{arith}
 use Rattle.input.specs.Words.{word_at}
 use Rattle.input.proofs.words.word_at.Goals as goal

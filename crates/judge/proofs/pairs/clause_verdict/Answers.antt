@@ -1,5 +1,4 @@
 -- `judge::pairs::clause_verdict` meets its contract, by the kind of clause. Assumes nothing.
-use borrow.Author.Rules.{rules}
 use Rattle.judge.proofs.OfPairs.{no_clause, alu_clause, fetch_clause}
 use Rattle.judge.proofs.pairs.clause_verdict.Goals as goal
 

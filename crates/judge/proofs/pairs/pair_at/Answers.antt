@@ -1,6 +1,5 @@
 -- `judge::pairs::pair_at` meets its contract: the pair's words, and what they say. Assumes nothing.
 use borrow.Author.Rules.{rules}
-use native.Mathlib.Omega.{arith}
 use Rattle.units.proofs.OfUnits.{stands}
 use Rattle.judge.proofs.OfPass.{pair_here}
 use Rattle.judge.proofs.pairs.pair_at.Goals as goal

@@ -1,5 +1,4 @@
 -- `judge::pairs::pair_verdict` meets its contract: one stretch of rules, and then the next. Assumes nothing.
-use borrow.Author.Rules.{rules}
 use Rattle.judge.proofs.OfPairs.{opened_refused, laid-refused, then-inside}
 use Rattle.judge.proofs.pairs.pair_verdict.Goals as goal
 

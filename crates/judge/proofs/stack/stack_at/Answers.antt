@@ -1,5 +1,4 @@
 -- `judge::stack::stack_at` meets its contract, by what the step found. Assumes nothing.
-use borrow.Author.Rules.{rules}
 use Rattle.judge.proofs.OfStack.{found_lacks, found_deep, found-next, found_left, found-end}
 use Rattle.judge.proofs.stack.stack_at.Goals as goal
 
