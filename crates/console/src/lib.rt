@@ -59,8 +59,8 @@ pub fn explanation_room() -> [u8; 156]
     [0; 156]
 }
 
-// Writes the report on an input, made in the lent room; nothing where the room is too small. Answers whether it was written: where not, that is
-// told.
+// Writes the report on an input, made in the lent room; nothing where the room is too small. Answers false where it could not be written, which is
+// told then.
 pub fn report_on<O: Write, E: Write>(
     output: &mut O,
     errors: &mut E,

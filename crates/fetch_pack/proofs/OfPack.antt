@@ -47,7 +47,7 @@ module _ (pack : List ℕ) {A : Type 0} (x y z : A) where
 
 -- ---- what becomes of the bytes
 
--- the answer is none of an edit that is done, which has tag 3
+-- the answer is none of an edit that is done
 abbrev pub NotDone : Edit → Type 0
 NotDone r = r ≡ edit.Done → ⊥
 
