@@ -2,7 +2,7 @@
 -- nothing.
 use Prim.Native.Nat.{ℕ, suc, ◌<◌, ◌≤◌, ◌+◌, ◌*◌, ◌-◌, ◌^◌}
 use mathlib.Core.Path.{◌≡◌, sym, ◌∙◌, ap, subst}
-use mathlib.Core.Bool.{Bool, true, false, not, ◌&&◌, and-true, and-false}
+use mathlib.Core.Bool.{Bool, true, false, not, ◌&&◌}
 use mathlib.Core.List.{List}
 use lib.Dec.{eqb, ltb, leb, eqb-suc-zero, eqb-suc-suc}
 use lib.ListN.{length, get_or, get_or-eq_default}
@@ -24,7 +24,7 @@ use Rattle.walk.specs.declared.Flow.{Flow}
 use Rattle.walk.specs.declared.Flow.TheVariants.{Still}
 use Rattle.walk.specs.Flow.{flow_of, flow_at}
 use Rattle.walk.specs.Rules.{is_loop_end, is_forward, is_backward, wrong_target, bad_target}
-use Rattle.walk.specs.CodeRows.{same_row, row_carries, row_else, row_ends, row_starts, row_back, row_differs, row_stack, row_checks}
+use Rattle.walk.specs.CodeRows.{same_row, row_carries, row_else, row_ends, row_back, row_differs, row_stack, row_checks}
 
 -- ---- rows
 
@@ -83,18 +83,6 @@ module _ (code : ℕ → Flow) (tops marks : List ℕ) (q k : ℕ) (b : Bool) (e
     pub ends-own : (m : ℕ) → not d ≡ false → m ≡ get_or marks k 0 → eqb 0 m ≡ row_ends code tops marks q k
     unfolding row_ends same_row
     ends-own m i j = rw (sym e ∙ not-false b h, loop-is true (not-false d i)) (ap (eqb 0) j)
-
-module _ (code : ℕ → Flow) (tops marks : List ℕ) (p t : ℕ) (k : ℕ) (r : Bool) (f : k ≡ t - 1) (g : r ≡ row_ends code tops marks p k) where
-  paired : (b : Bool) → r ≡ b → row_ends code tops marks p (t - 1) ≡ b
-  paired b h = ap (row_ends code tops marks p) (sym f) ∙ sym g ∙ h
-
-  pub starts_off : not r ≡ true → false ≡ row_starts code tops marks p t
-  unfolding row_starts
-  starts_off h = rw (paired false (not-true r h)) (sym (and-false (row_carries tops marks p 0 t)))
-
-  pub starts_on : (b : Bool) → not r ≡ false → b ≡ row_carries tops marks p 0 t → b ≡ row_starts code tops marks p t
-  unfolding row_starts
-  starts_on b h e = rw (paired true (not-false r h)) (e ∙ sym (and-true (row_carries tops marks p 0 t)))
 
 module _ (tops marks : List ℕ) (p t : ℕ) (m : ℕ) (e : m ≡ get_or marks p 0) where
   pub back_marked : (m ≡ 0 → ⊥) → false ≡ row_back tops marks p t

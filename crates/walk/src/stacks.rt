@@ -51,6 +51,7 @@ fn ends_loop(words: &[u32], tops: &[usize], marks: &[usize], p: Quadwords, place
 }
 
 // A LOOP_START at p goes to just behind its LOOP_END. No target that rule 18 lets pass is 0.
+#[tactic(auto, unfolding(crate::specs::CodeRows::row_starts))]
 fn starts_loop(
     words: &[u32],
     tops: &[usize],
