@@ -74,7 +74,8 @@ pub fn read_argument<E: Write>(
     }
 }
 
-// Whether there is an argument i. Argument 0 is the program's name.
+// Whether there is an argument i. Argument 0 is the program's name. Which there are is for the system to say: std promises nothing of it that a clause
+// here could rest on.
 pub fn is_given(rt: &impl Env, i: usize) -> bool {
     !matches!(rt.arg(i, &mut []), Err(FillError::NotPresent))
 }
