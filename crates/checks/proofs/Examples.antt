@@ -5,7 +5,7 @@ use mathlib.Core.List.{List, [], ◌∷◌}
 use Prim.Native.Nat.{ℕ}
 use Rattle.units.specs.Units.{quadwords, slots}
 use Rattle.checks.specs.declared.Place.TheVariants.{Quadword}
-use Rattle.checks.specs.declared.Verdict.{Verdict}
+use Rattle.checks.specs.Verdict.{Verdict}
 use Rattle.checks.specs.Verdict.{verdict_number, verdict_place, verdict_slot}
 use Rattle.checks.specs.Checks.{Check, check, first_broken}
 

@@ -4,14 +4,15 @@ use mathlib.Core.Path.{◌≡◌, refl, sym, ◌∙◌, ap, subst}
 use mathlib.Core.Bool.{Bool, true, false, cond, true≢false}
 use mathlib.Core.List.Memᴰ
 use mathlib.Core.List.{List, [], ◌∷◌, ◌++◌, Memᴰ}
+use Rattle.std.specs.Prelude.{Err}
 use mathlib.Core.Logic.{⊎_elim, ◌↔◌}
 use native.Mathlib.Nat.{le_of_suc-le-suc, not-suc-le-zero, eq-or-lt_of_le, le_refl, le_step}
 use Rattle.laws.proofs.OfCases.{impossible}
 use Rattle.laws.proofs.OfTests.{by_test_lem}
 use Rattle.units.specs.declared.Slots.{Slots}
 use Rattle.checks.specs.declared.Place.{Place}
-use Rattle.checks.specs.declared.Verdict.{Verdict}
-use Rattle.checks.specs.declared.Verdict.TheVariants.{Accepted, Refused}
+use Rattle.checks.specs.declared.Refusal.{Refusal}
+use Rattle.checks.specs.Verdict.{Verdict, Accepted, Refused}
 use Rattle.checks.specs.Checks.{Check, check, first_broken, below}
 use Rattle.checks.specs.Laws.{Unbroken, BrokenFirst, Eases, EachEases, none_left, and_then}
 
@@ -34,12 +35,28 @@ first_clean c cs h = by_test_lem c.broken (λ e. absurd (never_accepted (sym (hi
 pub rest_clean : (c : Check) (cs : List Check) → first_broken (c ∷ cs) ≡ Accepted → first_broken cs ≡ Accepted
 rest_clean c cs h = sym (miss c cs (first_clean c cs h)) ∙ h
 
+-- two refusals that are the same have the same numbers
+pub record SameParts (r r' : ℕ) (p p' : Place) (s s' : Slots) : Type 0 where
+  pub same_rule : r ≡ r'
+  pub same_place : p ≡ p'
+  pub same_slot : s ≡ s'
+
+pub refused_parts :
+    {r r' : ℕ} {p p' : Place} {s s' : Slots} → Refused r p s ≡ Refused r' p' s' → SameParts r r' p p' s s'
+refused_parts {r} {r'} {p} {p'} {s} {s'} h =
+    let same : record { rule = r; place = p; slot = s } ≡ record { rule = r'; place = p'; slot = s' } = cc in
+    record {
+      same_rule = ap (λ (x : Refusal). x.rule) same;
+      same_place = ap (λ (x : Refusal). x.place) same;
+      same_slot = ap (λ (x : Refusal). x.slot) same;
+    }
+
 -- ---- two lists joined
 
 -- a verdict, and where it accepts the next one
 abbrev pub and_then_lem : Verdict → Verdict → Verdict
 and_then_lem Accepted v = v
-and_then_lem (Refused r p s) v = Refused r p s
+and_then_lem (Err refusal) v = Err refusal
 
 pub joined : (a b : List Check) → first_broken (a ++ b) ≡ and_then_lem (first_broken a) (first_broken b)
 unfolding first_broken
@@ -64,7 +81,7 @@ left_clean a b h = by (first_broken a) (sym (joined a b) ∙ h)
   where
     by : (v : Verdict) → and_then_lem v (first_broken b) ≡ Accepted → v ≡ Accepted
     by Accepted h = refl
-    by (Refused r p s) h = h
+    by (Err refusal) h = h
 
 pub right_clean : (a b : List Check) → first_broken (a ++ b) ≡ Accepted → first_broken b ≡ Accepted
 right_clean a b h = sym (joined_clean a b (left_clean a b h)) ∙ h
@@ -100,11 +117,11 @@ refused_first (c ∷ cs) {r} {p} {s} h = by_test_lem c.broken here (λ e. furthe
   where
     here : c.broken ≡ true → BrokenFirst (c ∷ cs) r p s
     here e =
-        let v : Refused c.rule c.place c.slot ≡ Refused r p s = sym (hit c cs e) ∙ h in
+        let v = refused_parts (sym (hit c cs e) ∙ h) in
         record {
           earlier = [];
           later = cs;
-          parts = ap (λ (d : Check). d ∷ cs) (same_check c (cc) (cc) (cc) e);
+          parts = ap (λ (d : Check). d ∷ cs) (same_check c v.same_rule v.same_place v.same_slot e);
           none_earlier = λ d m. absurd (Memᴰ.not-nil m);
         }
 

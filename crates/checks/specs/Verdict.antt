@@ -1,13 +1,26 @@
 -- The answer's number, place and slot: document 01's table, "Numbers and what they mean". A rule is its number there.
-use Rattle.std.specs.Prelude.{ℕ, Bool, true, false}
+use Rattle.std.specs.Prelude.{ℕ, Bool, Result, Ok, Err, is_ok, ⊤}
+use Rattle.units.specs.declared.Slots.{Slots}
+use Rattle.units.specs.Units.{slots}
 use Rattle.checks.specs.declared.Place.{Place}
 use Rattle.checks.specs.declared.Place.TheVariants.{Whole, Line, Quadword}
-use Rattle.checks.specs.declared.Verdict.{Verdict}
-use Rattle.checks.specs.declared.Verdict.TheVariants.{Accepted, Refused}
+use Rattle.checks.specs.declared.Refusal.{Refusal}
+
+-- the code's type for it: `Ok`, or the refusal
+abbrev pub Verdict : Type 0
+Verdict = Result ⊤ Refusal
+
+abbrev pub refusal : ℕ → Place → ℕ → Refusal
+refusal rule place slot = record { rule = rule; place = place; slot = slots slot }
+
+pattern abbrev pub Accepted : Verdict
+Accepted = Ok (record {})
+
+abbrev pub Refused : ℕ → Place → Slots → Verdict
+Refused rule place slot = Err (record { rule = rule; place = place; slot = slot })
 
 abbrev pub is_accepted : Verdict → Bool
-is_accepted Accepted = true
-is_accepted (Refused rule place slot) = false
+is_accepted v = is_ok v
 
 -- the place as a number: 0, the card's line, the control-flow quadword
 abbrev pub line_or_quadword : Place → ℕ
@@ -17,13 +30,13 @@ line_or_quadword (Quadword q) = q.0
 
 -- the answer's three numbers; an accepted pack has 0, 0, 0
 abbrev pub verdict_number : Verdict → ℕ
-verdict_number Accepted = 0
-verdict_number (Refused rule place slot) = rule
+verdict_number (Ok t) = 0
+verdict_number (Err r) = r.rule
 
 abbrev pub verdict_place : Verdict → ℕ
-verdict_place Accepted = 0
-verdict_place (Refused rule place slot) = line_or_quadword place
+verdict_place (Ok t) = 0
+verdict_place (Err r) = line_or_quadword r.place
 
 abbrev pub verdict_slot : Verdict → ℕ
-verdict_slot Accepted = 0
-verdict_slot (Refused rule place slot) = slot.0
+verdict_slot (Ok t) = 0
+verdict_slot (Err r) = r.slot.0

@@ -12,45 +12,36 @@ ghost use Rattle.units.specs.Units as count;
 ghost use Rattle.units.specs.Code.{capped, quadwords_in_64, slots_in_64, words_in_64};
 
 // A number of quadwords (pairs of words), or the number of one, as ADDR gives it.
-#[derive(Clone, Copy)]
+#[derive(Clone, Copy, Debug, PartialEq, Eq, PartialOrd, Ord)]
 pub struct Quadwords(pub usize);
 
 // A number of slots of a clause, or the number of one, as COUNT gives it.
-#[derive(Clone, Copy)]
+#[derive(Clone, Copy, Debug, PartialEq, Eq, PartialOrd, Ord)]
 pub struct Slots(pub usize);
 
 // A number of 32-bit words, or the number of one, as the buffer counts them.
-#[derive(Clone, Copy)]
+#[derive(Clone, Copy, Debug, PartialEq, Eq, PartialOrd, Ord)]
 pub struct Words(pub usize);
-
-const LARGEST: usize = 0xffff_ffff_ffff_ffff;
-
-// The one addition of this crate.
-fn sum(a: usize, b: usize) -> usize
-    ensures { result ≡ capped (a + b) }
-{
-    if a <= LARGEST - b { a + b } else { LARGEST }
-}
 
 // The number of a quadword's low word.
 pub fn low_word(q: Quadwords) -> Words
     ensures { result ≡ words_in_64 (count.low_word q) }
 {
-    Words(sum(q.0, q.0))
+    Words(q.0.saturating_add(q.0))
 }
 
 // The number of a quadword's high word.
 pub fn high_word(q: Quadwords) -> Words
     ensures { result ≡ words_in_64 (count.high_word q) }
 {
-    Words(sum(sum(q.0, q.0), 1))
+    Words(q.0.saturating_add(q.0).saturating_add(1))
 }
 
 // The words that so many quadwords take.
 pub fn words_of(q: Quadwords) -> Words
     ensures { result ≡ words_in_64 (count.words_of q) }
 {
-    Words(sum(q.0, q.0))
+    Words(q.0.saturating_add(q.0))
 }
 
 // The quadwords that lie wholly in so many words.
@@ -64,7 +55,7 @@ pub fn whole_quadwords(n: Words) -> Quadwords
 pub fn counted_by(field: Slots) -> Slots
     ensures { result ≡ slots_in_64 (count.counted field) }
 {
-    Slots(sum(field.0, 1))
+    Slots(field.0.saturating_add(1))
 }
 
 // The quadwords that so many slots of an ALU clause take, one each.
@@ -78,59 +69,52 @@ pub fn slots_length(n: Slots) -> Quadwords
 pub fn fetches_length(n: Slots) -> Quadwords
     ensures { result ≡ quadwords_in_64 (count.fetches_length n) }
 {
-    Quadwords(sum(n.0, n.0))
+    Quadwords(n.0.saturating_add(n.0))
 }
 
 // The slot of a clause's fetch, counted from 0.
 pub fn fetch_slot(i: Slots) -> Slots
     ensures { result ≡ slots_in_64 (count.fetch_slot i) }
 {
-    Slots(sum(i.0, i.0))
+    Slots(i.0.saturating_add(i.0))
 }
 
 // The slot that lies `n` slots behind `s`.
 pub fn slot_behind(s: Slots, n: Slots) -> Slots
     ensures { result ≡ slots_in_64 (count.slot_behind s n) }
 {
-    Slots(sum(s.0, n.0))
+    Slots(s.0.saturating_add(n.0))
 }
 
 // Of `n` slots, those from slot `s` on.
 pub fn slots_left(n: Slots, s: Slots) -> Slots
     ensures { result ≡ count.slots_left n s }
 {
-    if s.0 < n.0 {
-        Slots(n.0 - s.0)
-    } else {
-        Slots(0)
-    }
+    Slots(n.0.saturating_sub(s.0))
 }
 
 // The quadword of slot `s` of the clause that starts at `start`.
 pub fn slot_quadword(start: Quadwords, s: Slots) -> Quadwords
     ensures { result ≡ quadwords_in_64 (count.slot_quadword start s) }
 {
-    Quadwords(sum(start.0, s.0))
+    Quadwords(start.0.saturating_add(s.0))
 }
 
 // The quadword behind a range of so many quadwords.
 pub fn range_end(start: Quadwords, size: Quadwords) -> Quadwords
     ensures { result ≡ quadwords_in_64 (count.range_end start size) }
 {
-    Quadwords(sum(start.0, size.0))
+    Quadwords(start.0.saturating_add(size.0))
 }
 
 // Whether a range of so many quadwords ends at `limit` or before. Counts have 64 bits, so that no ADDR of 32 wraps round.
 pub fn ends_by(start: Quadwords, size: Quadwords, limit: Quadwords) -> bool
     ensures { result ≡ count.is_at_most (count.range_end start size) limit }
 {
-    if limit.0 < size.0 {
-        return false;
+    match start.0.checked_add(size.0) {
+        Some(end) => end <= limit.0,
+        None => false,
     }
-    if LARGEST - start.0 < size.0 {
-        return false;
-    }
-    start.0 + size.0 <= limit.0
 }
 
 // Whether so many slots, or fetches, from `start` on lie in a buffer of so many words.
@@ -150,41 +134,37 @@ pub fn fetches_lie_in(buffer: Words, start: Quadwords, n: Slots) -> bool
 pub fn quadword_behind(q: Quadwords) -> Quadwords
     ensures { result ≡ quadwords_in_64 (count.quadword_behind q) }
 {
-    Quadwords(sum(q.0, 1))
+    Quadwords(q.0.saturating_add(1))
 }
 
 // The quadword before; that of quadword 0 is 0.
 pub fn quadword_before(q: Quadwords) -> Quadwords
     ensures { result ≡ count.quadword_before q }
 {
-    if q.0 == 0 {
-        Quadwords(0)
-    } else {
-        Quadwords(q.0 - 1)
-    }
+    Quadwords(q.0.saturating_sub(1))
 }
 
+// Transitional: callers go over to `<`, `<=` and `min`.
 pub fn is_below(a: Quadwords, b: Quadwords) -> bool
     ensures { result ≡ count.is_below a b }
 {
-    a.0 < b.0
+    a < b
 }
 
 pub fn is_at_most(a: Quadwords, b: Quadwords) -> bool
     ensures { result ≡ count.is_at_most a b }
 {
-    a.0 <= b.0
+    a <= b
 }
 
 pub fn is_slot_below(a: Slots, b: Slots) -> bool
     ensures { result ≡ count.is_slot_below a b }
 {
-    a.0 < b.0
+    a < b
 }
 
-// The smaller of two numbers.
 pub fn smaller(a: usize, b: usize) -> usize
     ensures { result ≡ min a b }
 {
-    if a < b { a } else { b }
+    a.min(b)
 }
