@@ -7,8 +7,8 @@ use native.Mathlib.Omega.{arith}
 use lib.Dec.{eqb, ltb}
 use borrow.Author.Tests.{ltb-true, ltb-false}
 use Rattle.formats.specs.Fields.{◌of◌, DST_REL, FETCH_INST, FETCH_DST_REL, FETCH_SRC_REL}
-use Rattle.checks.specs.declared.AtFault.{AtFault}
-use Rattle.checks.specs.declared.AtFault.TheVariants.{NoNumber, Number}
+use Rattle.std.specs.Prelude.{Option, Some, None}
+use Rattle.checks.specs.declared.NotGranted.{NotGranted}
 use Rattle.grants.specs.declared.Limits.{Limits}
 use Rattle.grants.specs.Grants.{Name, register, alu_register, set0, set1, constant, granted, source_names}
 use Rattle.grants.proofs.OfGrants.{locked_most}
@@ -16,12 +16,12 @@ use Rattle.opcodes.specs.declared.cf.FetchKind.{FetchKind}
 use Rattle.instructions.specs.declared.Source.{Source}
 use Rattle.instructions.specs.Instruction.{is_op3, is_relative, is_written, source0_of, source1_of, source2_of, names_of, destination_names, named}
 use Rattle.fetches.specs.Fetches as fetches
-use Rattle.faults.specs.Faults.{number_of, limit_of, first_fault}
+use Rattle.faults.specs.Faults.{number_of, limit_of, at_fault, first_fault}
 
 -- at most nine bits
-abbrev pub Small : AtFault → Type 0
-Small NoNumber = Unit {0}
-Small (Number found limit) = (found < 512) × (limit ≤ 512)
+abbrev pub Small : Option NotGranted → Type 0
+Small None = Unit {0}
+Small (Some fault) = (fault.found < 512) × (fault.limit ≤ 512)
 
 abbrev AllSmall : List Name → Type 0
 AllSmall [] = Unit {0}
@@ -74,6 +74,6 @@ module _ (l : Limits) (g : l.gprs ≤ 128) (c : l.consts ≤ 256) where
   small_fault [] h = tt
   small_fault (n ∷ ns) h = by (granted l n) (small_fault ns h.1)
     where
-      by : (t : Bool) → Small (first_fault l ns) → Small (cond t (first_fault l ns) (Number (number_of n) (limit_of l n)))
+      by : (t : Bool) → Small (first_fault l ns) → Small (cond t (first_fault l ns) (at_fault (number_of n) (limit_of l n)))
       by true k = k
       by false k = (h.0, small_limit n)

@@ -12,14 +12,14 @@ use Rattle.laws.proofs.OfTests.{neither}
 use Rattle.laws.proofs.OfCases.{impossible}
 use Rattle.formats.specs.Fields.{◌of◌, DST_GPR, DST_REL, SRC2_SEL, FETCH_INST, FETCH_DST_GPR, FETCH_DST_REL, FETCH_SRC_GPR, FETCH_SRC_REL}
 use Rattle.opcodes.specs.declared.cf.FetchKind.{FetchKind}
-use Rattle.checks.specs.declared.AtFault.{AtFault}
-use Rattle.checks.specs.declared.AtFault.TheVariants.{Number}
+use Rattle.std.specs.Prelude.{Option, None}
+use Rattle.checks.specs.declared.NotGranted.{NotGranted}
 use Rattle.grants.specs.declared.Limits.{Limits}
 use Rattle.grants.specs.Grants.{Name, register, alu_register, set0, set1, constant, locked, granted, all_granted, source_names}
 use Rattle.instructions.specs.declared.Source.{Source}
 use Rattle.instructions.specs.Instruction.{is_op3, is_relative, is_written, source0_of, source1_of, source2_of, names_of, destination_names, named}
 use Rattle.fetches.specs.Fetches as fetches
-use Rattle.faults.specs.Faults.{number_of, limit_of, first_fault}
+use Rattle.faults.specs.Faults.{number_of, limit_of, at_fault, first_fault}
 use Rattle.faults.specs.Operands.{Operand, operand, operands_of, fetch_operands, FirstOfSort, FirstAtFault}
 
 -- ---- the limit is the first of its sort that is not granted
@@ -134,15 +134,15 @@ all_fetch_named kind w0 w1 =
 -- ---- the first of them at fault
 
 -- the answer to operands of which one is at fault
-pub record Found (l : Limits) (os : List Operand) (f : AtFault) : Type 0 where
+pub record Found (l : Limits) (os : List Operand) (f : Option NotGranted) : Type 0 where
   pub found : ℕ
   pub limit : ℕ
-  pub is_number : f ≡ Number found limit
+  pub is_number : f ≡ at_fault found limit
   pub first : FirstAtFault l os found limit
 
 module _ (l : Limits) where
   -- one more operand before, which is not at fault
-  one_before : (o : Operand) (os : List Operand) (f : AtFault) → ((n : Name) → Memᴰ n o.names → granted l n ≡ true) → Found l os f → Found l (o ∷ os) f
+  one_before : (o : Operand) (os : List Operand) (f : Option NotGranted) → ((n : Name) → Memᴰ n o.names → granted l n ≡ true) → Found l os f → Found l (o ∷ os) f
   one_before o os f h r =
       let x = r.first in
       record {
@@ -180,7 +180,7 @@ module _ (l : Limits) where
         where
           one :
               (ns ≡ []) × (k ≡ number_of n) → (t : Bool) → granted l n ≡ t → t && all_granted l (ns ++ names_of_all os) ≡ false
-              → Found l (operand k (n ∷ ns) ∷ os) (cond t (first_fault l (ns ++ names_of_all os)) (Number (number_of n) (limit_of l n)))
+              → Found l (operand k (n ∷ ns) ∷ os) (cond t (first_fault l (ns ++ names_of_all os)) (at_fault (number_of n) (limit_of l n)))
           one e true g z =
               one_before (operand k (n ∷ ns)) os _
               (λ m i. ⊎_elim (λ q. ap (granted l) q ∙ g) (λ t. absurd (Memᴰ.not-nil (subst (Memᴰ m) e.0 t))) (Memᴰ.cases_cons i))
@@ -189,7 +189,7 @@ module _ (l : Limits) where
               record {
                 found = k;
                 limit = limit_of l n;
-                is_number = ap (λ (x : ℕ). Number x (limit_of l n)) (sym e.1);
+                is_number = ap (λ (x : ℕ). at_fault x (limit_of l n)) (sym e.1);
                 first =
                     record {
                       earlier = [];

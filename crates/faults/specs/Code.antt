@@ -1,15 +1,8 @@
 -- What the code's parts answer. It is for the code alone.
 use Rattle.std.specs.Prelude.{ℕ, ◌+◌, cond, List, [], eqb, ltb}
-use Rattle.checks.specs.declared.AtFault.{AtFault}
-use Rattle.checks.specs.declared.AtFault.TheVariants.{NoNumber, Number}
 use Rattle.grants.specs.declared.Limits.{Limits}
 use Rattle.grants.specs.Grants.{Name, locked, source_names}
 use Rattle.instructions.specs.Instruction.{is_op3, source2_of, names_of}
-
--- the first of two answers that is a number
-abbrev pub earlier_of : AtFault → AtFault → AtFault
-earlier_of NoNumber b = b
-earlier_of (Number found limit) b = Number found limit
 
 -- what a source names, by its SEL and REL
 abbrev pub named_by : ℕ → ℕ → List Name

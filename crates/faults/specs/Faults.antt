@@ -1,8 +1,7 @@
 -- Found and limit: document 02, request 1. Found is the first number at fault, destination then sources, and limit the first one not granted
 -- there: gprs, 128, 144, 160, 176, or 256 plus consts.
-use Rattle.std.specs.Prelude.{ℕ, ◌+◌, cond, List, [], ◌∷◌}
-use Rattle.checks.specs.declared.AtFault.{AtFault}
-use Rattle.checks.specs.declared.AtFault.TheVariants.{NoNumber, Number}
+use Rattle.std.specs.Prelude.{ℕ, ◌+◌, cond, List, [], ◌∷◌, Option, Some, None}
+use Rattle.checks.specs.declared.NotGranted.{NotGranted}
 use Rattle.grants.specs.declared.Limits.{Limits}
 use Rattle.grants.specs.Grants.{Name, register, alu_register, set0, set1, constant, locked, granted}
 
@@ -33,7 +32,11 @@ granted_of_sort l (constant k) = l.consts
 abbrev pub limit_of : Limits → Name → ℕ
 limit_of l n = number_of (same_sort n (granted_of_sort l n))
 
+-- a number at fault, and the first of its sort that is not granted
+abbrev pub at_fault : ℕ → ℕ → Option NotGranted
+at_fault found limit = Some (record { found = found; limit = limit })
+
 -- the first of some names that is not granted
-unfoldable pub first_fault : Limits → List Name → AtFault
-first_fault l [] = NoNumber
-first_fault l (n ∷ ns) = cond (granted l n) (first_fault l ns) (Number (number_of n) (limit_of l n))
+unfoldable pub first_fault : Limits → List Name → Option NotGranted
+first_fault l [] = None
+first_fault l (n ∷ ns) = cond (granted l n) (first_fault l ns) (at_fault (number_of n) (limit_of l n))

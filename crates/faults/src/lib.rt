@@ -9,16 +9,16 @@ ghost use Rattle.instructions.specs.Instruction as instruction;
 ghost use Rattle.fetches.specs.Fetches as fetch;
 ghost use Rattle.formats.specs.Fields.{◌of◌, FETCH_INST};
 ghost use Rattle.faults.specs.Faults.{first_fault};
-ghost use Rattle.faults.specs.Code.{earlier_of, named_by, third_names, source_limit};
+ghost use Rattle.faults.specs.Code.{named_by, third_names, source_limit};
 
 use bits::read;
-use checks::AtFault;
+use checks::NotGranted;
 use formats::fields;
 use grants::Limits;
 use opcodes::cf::FetchKind;
 
 // Rule 15 on one instruction: destination, then sources.
-pub fn instruction_fault(limits: Limits, low: u32, high: u32) -> AtFault
+pub fn instruction_fault(limits: Limits, low: u32, high: u32) -> Option<NotGranted>
     ensures { result ≡ first_fault limits (instruction.named low high) }
 {
     let destination = destination_fault(limits, high);
@@ -33,71 +33,62 @@ pub fn instruction_fault(limits: Limits, low: u32, high: u32) -> AtFault
         read(low, fields::SRC1_REL),
     );
     let third = third_source_fault(limits, high);
-    earlier(destination, earlier(first, earlier(second, third)))
+    destination.or(first).or(second).or(third)
 }
 
 // Rule 9 on one fetch, by its first two words: destination, then source.
-pub fn fetch_fault(kind: FetchKind, limits: Limits, word0: u32, word1: u32) -> AtFault
+pub fn fetch_fault(kind: FetchKind, limits: Limits, word0: u32, word1: u32) -> Option<NotGranted>
     ensures { result ≡ first_fault limits (fetch.named kind (FETCH_INST of word0) word0 word1) }
 {
     let number = read(word0, fields::FETCH_INST);
     let destination = fetch_destination_fault(kind, number, limits, word1);
     let source = fetch_source_fault(limits, word0);
-    earlier(destination, source)
+    destination.or(source)
 }
 
-fn earlier(a: AtFault, b: AtFault) -> AtFault
-    ensures { result ≡ earlier_of a b }
-{
-    match a {
-        AtFault::NoNumber => b,
-        AtFault::Number { found: _, limit: _ } => a,
-    }
-}
-
-fn destination_fault(limits: Limits, high: u32) -> AtFault
+fn destination_fault(limits: Limits, high: u32) -> Option<NotGranted>
     ensures { result ≡ first_fault limits (instruction.destination_names high) }
 {
     if !instructions::is_written(high) {
-        return AtFault::NoNumber;
+        return None;
     }
     if read(high, fields::DST_REL) != 0 {
-        return AtFault::NoNumber;
+        return None;
     }
     alu_register_fault(limits, read(high, fields::DST_GPR))
 }
 
-fn alu_register_fault(limits: Limits, r: u32) -> AtFault
+fn alu_register_fault(limits: Limits, r: u32) -> Option<NotGranted>
     ensures { result ≡ first_fault limits (alu_register r ∷ []) }
 {
     if grants::alu_register_granted(limits, r) {
-        return AtFault::NoNumber;
+        return None;
     }
-    AtFault::Number {
+    Some(NotGranted {
         found: r as usize,
         limit: limits.gprs as usize,
-    }
+    })
 }
 
-fn source_fault(limits: Limits, sel: u32, rel: u32) -> AtFault
+fn source_fault(limits: Limits, sel: u32, rel: u32) -> Option<NotGranted>
     ensures { result ≡ first_fault limits (named_by sel rel) }
 {
     if rel != 0 {
-        return AtFault::NoNumber;
+        return None;
     }
     direct_source_fault(limits, sel)
 }
 
-fn direct_source_fault(limits: Limits, sel: u32) -> AtFault
+fn direct_source_fault(limits: Limits, sel: u32) -> Option<NotGranted>
     ensures { result ≡ first_fault limits (source_names sel) }
 {
     if grants::source_granted(limits, sel) {
-        return AtFault::NoNumber;
+        return None;
     }
-    AtFault::Number {
+    Some(NotGranted {
         found: sel as usize,
         limit: source_limit(limits, sel),
-    }
+    })
 }
 
 // The first source of a sort that is not granted: registers, the two locked sets, the constant file.
@@ -117,11 +108,11 @@ fn source_limit(limits: Limits, sel: u32) -> usize
 }
 
 // Only an OP3 has a third source.
-fn third_source_fault(limits: Limits, high: u32) -> AtFault
+fn third_source_fault(limits: Limits, high: u32) -> Option<NotGranted>
     ensures { result ≡ first_fault limits (third_names high) }
 {
     if !instructions::is_op3(high) {
-        return AtFault::NoNumber;
+        return None;
     }
     source_fault(
         limits,
@@ -131,35 +122,35 @@ fn third_source_fault(limits: Limits, high: u32) -> AtFault
 }
 
 // A semantic fetch looks its destination up, and names none.
-fn fetch_destination_fault(kind: FetchKind, number: u32, limits: Limits, word1: u32) -> AtFault
+fn fetch_destination_fault(kind: FetchKind, number: u32, limits: Limits, word1: u32) -> Option<NotGranted>
     ensures { result ≡ first_fault limits (fetch.destination kind number word1) }
 {
     if fetches::is_semantic(kind, number) {
-        return AtFault::NoNumber;
+        return None;
     }
     if read(word1, fields::FETCH_DST_REL) != 0 {
-        return AtFault::NoNumber;
+        return None;
     }
     register_fault(limits, read(word1, fields::FETCH_DST_GPR))
 }
 
-fn fetch_source_fault(limits: Limits, word0: u32) -> AtFault
+fn fetch_source_fault(limits: Limits, word0: u32) -> Option<NotGranted>
     ensures { result ≡ first_fault limits (fetch.source word0) }
 {
     if read(word0, fields::FETCH_SRC_REL) != 0 {
-        return AtFault::NoNumber;
+        return None;
     }
     register_fault(limits, read(word0, fields::FETCH_SRC_GPR))
 }
 
-fn register_fault(limits: Limits, r: u32) -> AtFault
+fn register_fault(limits: Limits, r: u32) -> Option<NotGranted>
     ensures { result ≡ first_fault limits (register r ∷ []) }
 {
     if grants::register_granted(limits, r) {
-        return AtFault::NoNumber;
+        return None;
     }
-    AtFault::Number {
+    Some(NotGranted {
         found: r as usize,
         limit: limits.gprs as usize,
-    }
+    })
 }

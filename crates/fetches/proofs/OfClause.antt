@@ -6,6 +6,7 @@ use Prim.Native.Nat.{ℕ, ◌+◌, ◌*◌, ◌/◌, ◌^◌, ◌<◌, ◌≤◌
 use native.Mathlib.Omega.{arith}
 use lib.ListN.{length, get_or}
 use borrow.Author.Tests.{ltb-true, leb-true, not-false}
+use Rattle.std.specs.Prelude.{Option, Some, None}
 use Rattle.laws.proofs.OfCases.{impossible}
 use Rattle.units.specs.declared.Quadwords.{Quadwords}
 use Rattle.units.specs.declared.Slots.{Slots}
@@ -15,18 +16,15 @@ use Rattle.units.specs.Code.{capped, quadwords_in_64, slots_in_64, words_in_64}
 use Rattle.units.proofs.OfUnits.{capped_exact}
 use Rattle.bits.specs.Fields.{field_of}
 use Rattle.checks.specs.declared.Place.TheVariants.{Quadword}
-use Rattle.checks.specs.declared.Verdict.{Verdict}
-use Rattle.checks.specs.declared.Verdict.TheVariants.{Accepted, Refused}
+use Rattle.checks.specs.Verdict.{Verdict, Accepted, Refused}
 use Rattle.checks.specs.Checks.{first_broken, below}
 use Rattle.checks.proofs.OfChecks.{first_clean, rest_clean, below_each}
 use Rattle.grants.specs.declared.Limits.{Limits}
 use Rattle.grants.specs.Grants.{Name, granted, all_granted}
 use Rattle.grants.proofs.OfGrants.{each_granted}
 use Rattle.opcodes.specs.declared.cf.FetchKind.{FetchKind}
-use Rattle.fetches.specs.declared.Fault.{Fault}
-use Rattle.fetches.specs.declared.Fault.TheVariants.{Clean, Broken}
 use Rattle.fetches.specs.Fetches.{bad_fetch, bad_register, word0, word1, word3, named_at, fetch_checks, clause_checks}
-use Rattle.fetches.specs.Code.{fault_of}
+use Rattle.fetches.specs.Code.{broken_rule}
 
 -- ---- in the buffer
 
@@ -62,32 +60,32 @@ module _ {n : ℕ} (h : n < 2 ^ 64) (s : Quadwords) (f i : Slots) {t : Bool} (e 
 
 -- its words, counted from its first
 pub fault_at_lem :
-    (k : FetchKind) (l : Limits) (w : List ℕ) (s : Quadwords) (i : ℕ) (at : ℕ) (f : Fault) → at ≡ 2 * (s.0 + 2 * i)
-    → f ≡ fault_of k l (get_or w at 0) (get_or w (at + 1) 0) (get_or w (at + 3) 0)
-    → f ≡ fault_of k l (word0 w s i) (word1 w s i) (word3 w s i)
+    (k : FetchKind) (l : Limits) (w : List ℕ) (s : Quadwords) (i : ℕ) (at : ℕ) (f : Option ℕ) → at ≡ 2 * (s.0 + 2 * i)
+    → f ≡ broken_rule k l (get_or w at 0) (get_or w (at + 1) 0) (get_or w (at + 3) 0)
+    → f ≡ broken_rule k l (word0 w s i) (word1 w s i) (word3 w s i)
 unfolding low_at high_at
 fault_at_lem k l w s i at f e g =
     let b : at + 1 ≡ 2 * (s.0 + 2 * i) + 1 = omega arith in
     let d : at + 3 ≡ 2 * (s.0 + 2 * i + 1) + 1 = omega arith in
-    g ∙ (λ j. fault_of k l (get_or w (e j) 0) (get_or w (b j) 0) (get_or w (d j) 0))
+    g ∙ (λ j. broken_rule k l (get_or w (e j) 0) (get_or w (b j) 0) (get_or w (d j) 0))
 
 module _ (k : FetchKind) (l : Limits) (w : List ℕ) (place s : Quadwords) (i : ℕ) where
-  pub fetch_broken : (r : ℕ) → Broken r ≡ fault_of k l (word0 w s i) (word1 w s i) (word3 w s i) → first_broken (fetch_checks k l w place s i) ≡ Refused r (Quadword place) (fetch_slot (slots i))
-  unfolding fetch_checks fault_of first_broken
+  pub fetch_broken : (r : ℕ) → Some r ≡ broken_rule k l (word0 w s i) (word1 w s i) (word3 w s i) → first_broken (fetch_checks k l w place s i) ≡ Refused r (Quadword place) (fetch_slot (slots i))
+  unfolding fetch_checks broken_rule first_broken
   fetch_broken r =
       by (bad_fetch k (field_of (word0 w s i) 0 5) (word3 w s i)) (bad_register k l (word0 w s i) (word1 w s i))
     where
-      by : (a b : Bool) → Broken r ≡ cond a (Broken 8) (cond b (Broken 9) Clean) → cond a (Refused 8 (Quadword place) (fetch_slot (slots i))) (cond b (Refused 9 (Quadword place) (fetch_slot (slots i))) Accepted) ≡ Refused r (Quadword place) (fetch_slot (slots i))
+      by : (a b : Bool) → Some r ≡ cond a (Some 8) (cond b (Some 9) None) → cond a (Refused 8 (Quadword place) (fetch_slot (slots i))) (cond b (Refused 9 (Quadword place) (fetch_slot (slots i))) Accepted) ≡ Refused r (Quadword place) (fetch_slot (slots i))
       by true b e = cc
       by false true e = cc
       by false false e = impossible cc
 
-  pub fetch_clean : Clean ≡ fault_of k l (word0 w s i) (word1 w s i) (word3 w s i) → first_broken (fetch_checks k l w place s i) ≡ Accepted
-  unfolding fetch_checks fault_of first_broken
+  pub fetch_clean : None ≡ broken_rule k l (word0 w s i) (word1 w s i) (word3 w s i) → first_broken (fetch_checks k l w place s i) ≡ Accepted
+  unfolding fetch_checks broken_rule first_broken
   fetch_clean =
       by (bad_fetch k (field_of (word0 w s i) 0 5) (word3 w s i)) (bad_register k l (word0 w s i) (word1 w s i))
     where
-      by : (a b : Bool) → Clean ≡ cond a (Broken 8) (cond b (Broken 9) Clean) → cond a (Refused 8 (Quadword place) (fetch_slot (slots i))) (cond b (Refused 9 (Quadword place) (fetch_slot (slots i))) Accepted) ≡ Accepted
+      by : (a b : Bool) → None ≡ cond a (Some 8) (cond b (Some 9) None) → cond a (Refused 8 (Quadword place) (fetch_slot (slots i))) (cond b (Refused 9 (Quadword place) (fetch_slot (slots i))) Accepted) ≡ Accepted
       by true b e = impossible cc
       by false true e = impossible cc
       by false false e = refl

@@ -3,15 +3,15 @@ use mathlib.Core.Path.{◌≡◌, sym, ap, ◌∙◌}
 use mathlib.Core.Bool.{Bool, true, false, not, and-true}
 use Prim.Native.Nat.{ℕ}
 use borrow.Author.Tests.{eq-eqb, ne_eqb, not-true, not-false}
+use Rattle.std.specs.Prelude.{Some, None}
 use Rattle.bits.specs.Fields.{field_of}
 use Rattle.opcodes.specs.Numbers.{fetch_taken}
 use Rattle.grants.specs.declared.Limits.{Limits}
 use Rattle.grants.specs.Grants.{register, granted, all_granted}
 use Rattle.grants.proofs.OfGrants.{joined_refused, joined_passed}
 use Rattle.opcodes.specs.declared.cf.FetchKind.{FetchKind}
-use Rattle.fetches.specs.declared.Fault.TheVariants.{Clean, Broken}
 use Rattle.fetches.specs.Fetches.{is_semantic, bad_fetch, destination, source, named}
-use Rattle.fetches.specs.Code.{fault_of}
+use Rattle.fetches.specs.Code.{broken_rule}
 
 -- the same of a kind that was told
 pub semantic_told : (k told : FetchKind) (n : ℕ) → k ≡ told → is_semantic told n ≡ is_semantic k n
@@ -61,18 +61,18 @@ module _ (k : FetchKind) (l : Limits) (w0 w1 w3 n : ℕ) (b : Bool) (e : n ≡ f
   is_bad_fetch : (t : Bool) → b ≡ t → bad_fetch k (field_of w0 0 5) w3 ≡ t
   is_bad_fetch t h = ap (λ (m : ℕ). bad_fetch k m w3) (sym e) ∙ sym f ∙ h
 
-  pub breaks_8 : b ≡ true → Broken 8 ≡ fault_of k l w0 w1 w3
-  unfolding fault_of
+  pub breaks_8 : b ≡ true → Some 8 ≡ broken_rule k l w0 w1 w3
+  unfolding broken_rule
   breaks_8 h = rw (is_bad_fetch true h)
 
   module _ (g : Bool) (p : b ≡ false) (q : g ≡ all_granted l (named k n w0 w1)) where
     is-granted : (t : Bool) → g ≡ t → all_granted l (named k (field_of w0 0 5) w0 w1) ≡ t
     is-granted t h = ap (λ (m : ℕ). all_granted l (named k m w0 w1)) (sym e) ∙ sym q ∙ h
 
-    pub breaks-9 : not g ≡ true → Broken 9 ≡ fault_of k l w0 w1 w3
-    unfolding fault_of
+    pub breaks-9 : not g ≡ true → Some 9 ≡ broken_rule k l w0 w1 w3
+    unfolding broken_rule
     breaks-9 h = rw (is_bad_fetch false p, is-granted false (not-true g h))
 
-    pub breaks-none : not g ≡ false → Clean ≡ fault_of k l w0 w1 w3
-    unfolding fault_of
+    pub breaks-none : not g ≡ false → None ≡ broken_rule k l w0 w1 w3
+    unfolding broken_rule
     breaks-none h = rw (is_bad_fetch false p, is-granted true (not-false g h))

@@ -5,21 +5,14 @@ ghost use Rattle.std.specs.Prelude.{◌≡◌};
 ghost use Rattle.checks.specs.Checks.{first_broken};
 ghost use Rattle.grants.specs.Grants.{all_granted};
 ghost use Rattle.fetches.specs.Fetches.{is_semantic, destination, source, named, bad_fetch, clause_checks};
-ghost use Rattle.fetches.specs.Code.{fault_of};
+ghost use Rattle.fetches.specs.Code.{broken_rule};
 
 use bits::read;
-use checks::{Place, Verdict};
+use checks::{Place, Refusal, Verdict};
 use formats::fields;
 use grants::Limits;
 use opcodes::cf::FetchKind;
 use units::{Quadwords, Slots, Words};
-
-// What one fetch breaks.
-#[derive(Clone, Copy)]
-enum Fault {
-    Clean,
-    Broken(u8),
-}
 
 // A clause of `fetches` fetches from `start` on, whose opener stands at `place`: the first broken check of rules 8 and 9.
 pub fn fetch_clause(
@@ -34,39 +27,35 @@ pub fn fetch_clause(
 {
     // Where the clause does not lie in the buffer, rule 6 has refused it.
     if !units::fetches_lie_in(Words(words.len()), start, fetches) {
-        return Verdict::Accepted;
+        return Ok(());
     }
-    let mut i = Slots(0);
-    while units::is_slot_below(i, fetches) {
-        let at = units::low_word(units::slot_quadword(start, units::fetch_slot(i))).0;
-        let fault = fetch_fault(kind, limits, words[at], words[at + 1], words[at + 3]);
-        match fault {
-            Fault::Broken(rule) => {
-                return Verdict::Refused {
-                    rule,
-                    place: Place::Quadword(place),
-                    slot: units::fetch_slot(i),
-                };
-            }
-            Fault::Clean => {}
+    for i in 0..fetches.0 {
+        let slot = units::fetch_slot(Slots(i));
+        let at = units::low_word(units::slot_quadword(start, slot)).0;
+        let broken = broken_rule(kind, limits, words[at], words[at + 1], words[at + 3]);
+        if let Some(rule) = broken {
+            return Err(Refusal {
+                rule,
+                place: Place::Quadword(place),
+                slot,
+            });
         }
-        i = units::slot_behind(i, Slots(1));
     }
-    Verdict::Accepted
+    Ok(())
 }
 
-// Rules 8 and 9 on one fetch, by its first, second and fourth word.
-fn fetch_fault(kind: FetchKind, limits: Limits, word0: u32, word1: u32, word3: u32) -> Fault
-    ensures { result ≡ fault_of kind limits word0 word1 word3 }
+// The first of rules 8 and 9 that a fetch breaks, by its first, second and fourth word.
+fn broken_rule(kind: FetchKind, limits: Limits, word0: u32, word1: u32, word3: u32) -> Option<u8>
+    ensures { result ≡ broken_rule kind limits word0 word1 word3 }
 {
     let number = read(word0, fields::FETCH_INST);
     if is_bad(kind, number, word3) {
-        return Fault::Broken(8);
+        return Some(8);
     }
     if !registers_granted(kind, number, limits, word0, word1) {
-        return Fault::Broken(9);
+        return Some(9);
     }
-    Fault::Clean
+    None
 }
 
 // Rule 8: the number is not taken, or the fourth word is not 0.
