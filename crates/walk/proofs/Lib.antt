@@ -3,6 +3,4 @@ pub mod OfStacks
 pub mod OfFollow
 pub mod OfSecond
 pub mod OfWalk
-pub mod OfSteps
-pub mod OfTests
 pub mod Examples

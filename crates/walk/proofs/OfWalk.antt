@@ -11,7 +11,7 @@ use borrow.Author.Tests.{ltb-false, not-false, eq-eqb, ne_eqb, le-ltb}
 use native.Mathlib.Omega.{arith}
 use native.Mathlib.Nat.{eq-or-lt_of_le}
 use Rattle.laws.proofs.OfTests.{both, neither}
-use Rattle.checks.specs.declared.Verdict.TheVariants.{Accepted}
+use Rattle.checks.specs.Verdict.{Accepted}
 use Rattle.checks.specs.Checks.{first_broken, below}
 use Rattle.checks.proofs.OfChecks.{first_clean, rest_clean, below_each}
 use Rattle.walk.specs.declared.Flow.{Flow}

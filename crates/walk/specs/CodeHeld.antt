@@ -1,9 +1,11 @@
--- What only the code's contracts cite: when rows of two numbers hold the first pass's stacks: `marks` frames M over the loop frame of `top - 1`, or over nothing
+-- What only the code's contracts cite: when rows hold the first pass's stacks: `marks` frames M over the loop frame of `top - 1`, or over nothing
 -- where `top` is 0.
-use Rattle.std.specs.Prelude.{ℕ, zero, suc, ◌≤◌, ◌<◌, ◌≡◌, List, [], ◌∷◌, length, get_or}
+use Rattle.std.specs.Prelude.{ℕ, zero, suc, ◌≤◌, ◌<◌, ◌≡◌, List, [], ◌∷◌, length}
 use Rattle.walk.specs.declared.Flow.{Flow}
 use Rattle.walk.specs.declared.Frames.{Frames}
+use Rattle.walk.specs.declared.rows.Row.{Row}
 use Rattle.walk.specs.Flow.{M, L, Stack, stack_at}
+use Rattle.walk.specs.CodeRows.{row_at}
 
 -- m frames M over a stack
 unfoldable pub marked : ℕ → Stack → Stack
@@ -15,16 +17,16 @@ unfoldable pub base : (ℕ → Flow) → ℕ → Stack
 base code zero = []
 base code (suc q) = L q ∷ stack_at code q
 
--- two numbers are the first pass's stack at p
-pub record Shape (code : ℕ → Flow) (p top marks : ℕ) : Type 0 where
-  pub stack : stack_at code p ≡ marked marks (base code top)
-  pub near : top ≤ p
+-- a row is the first pass's stack at p
+pub record Shape (code : ℕ → Flow) (p : ℕ) (row : Row) : Type 0 where
+  pub stack : stack_at code p ≡ marked row.marks (base code row.top.0)
+  pub near : row.top.0 ≤ p
 
 -- so is a struct, with its depth
 pub record Held (code : ℕ → Flow) (p : ℕ) (s : Frames) : Type 0 where
-  pub shape : Shape code p s.top.0 s.marks
+  pub shape : Shape code p s.row
   pub size : s.depth ≡ length (stack_at code p)
 
 -- the rows of all places below n hold the stacks there
-abbrev pub Recorded : (ℕ → Flow) → ℕ → List ℕ → List ℕ → Type 0
-Recorded code n tops marks = (k : ℕ) → k < n → Shape code k (get_or tops k 0) (get_or marks k 0)
+abbrev pub Recorded : (ℕ → Flow) → ℕ → List Row → Type 0
+Recorded code n rows = (k : ℕ) → k < n → Shape code k (row_at rows k)

@@ -16,15 +16,17 @@ ghost use Rattle.walk.specs.CodeRows.{followed, row_checks};
 ghost use Rattle.walk.specs.declared.Flow.TheVariants as flows;
 
 use bits::read;
-use checks::{Place, Verdict};
+use checks::{Place, Refusal, Verdict};
 use formats::fields;
 use opcodes::cf::{Branch, Control};
-use units::{Quadwords, Slots};
+use units::Quadwords;
 
 mod rows;
 mod stacks;
 mod steps;
 mod targets;
+
+pub use rows::Row;
 
 // What a pair does to the stack and where it goes; `pops` is POP_COUNT, `target` is ADDR.
 #[derive(Clone, Copy)]
@@ -39,21 +41,18 @@ pub enum Flow {
     },
 }
 
-// A stack: `marks` frames M over the frame of the loop that starts before `top` (over nothing where `top` is 0), `depth` frames
-// in all.
-#[derive(Clone, Copy)]
+// A stack: its row, and how many frames it has in all.
+#[derive(Clone, Copy, Debug, PartialEq, Eq)]
 pub struct Frames {
-    pub top: Quadwords,
-    pub marks: usize,
+    pub row: Row,
     pub depth: usize,
 }
 
-// What the first pass finds at a place: a frame is missing, there is no room for one more, or the stack behind it.
-#[derive(Clone, Copy)]
-pub enum Moved {
+// Rule 16: a frame that is needed is missing, or there is no room for one more.
+#[derive(Clone, Copy, Debug, PartialEq, Eq)]
+pub enum StackFault {
     Lacks,
     TooDeep,
-    To(Frames),
 }
 
 // What a pair does, by what it is and by its words.
@@ -61,12 +60,11 @@ pub fn flow_of(control: Control, low: u32, high: u32) -> Flow
     ensures { result ≡ flow_of control low high }
 {
     match control {
-        Control::NotTaken => Flow::Still,
-        Control::Nop => Flow::Still,
-        Control::Fetch(_) => Flow::Still,
+        Control::NotTaken | Control::Nop | Control::Fetch(_) | Control::Export => Flow::Still,
         Control::Branch(kind) => branch_of(kind, low, high),
-        Control::Export => Flow::Still,
-        Control::Alu { pushes, pops } => opener_flow(pushes, pops),
+        Control::Alu { pushes: true, pops: _ } => Flow::PushMark,
+        // ALU pops none: it leaves the stack as it is.
+        Control::Alu { pushes: false, pops } => Flow::PopMarks(pops),
     }
 }
 
@@ -80,16 +78,6 @@ fn branch_of(kind: Branch, low: u32, high: u32) -> Flow
     }
 }
 
-// ALU pops none: it leaves the stack as it is.
-fn opener_flow(pushes: bool, pops: usize) -> Flow
-    ensures { result ≡ cond pushes flows.PushMark (flows.PopMarks pops) }
-{
-    if pushes {
-        return Flow::PushMark;
-    }
-    Flow::PopMarks(pops)
-}
-
 // The first pass at a place: the step on "no", and whether either answer lacks a frame. `behind` is the next place, `s` the stack
 // before this one, and the rows are those of the places before.
 pub fn follow(
@@ -97,68 +85,45 @@ pub fn follow(
     behind: Quadwords,
     limit: usize,
     s: Frames,
-    tops: &[usize],
-    marks: &[usize],
-) -> Moved
-    ensures { result ≡ followed limit flow behind.0 s tops.now marks.now }
+    rows: &[Row],
+) -> Result<Frames, StackFault>
+    ensures { result ≡ followed limit flow behind.0 s rows.now }
 {
     match flow {
-        Flow::Still => Moved::To(s),
-        Flow::PushMark => steps::push_mark(limit, s),
-        Flow::PopMarks(pops) => steps::pop_marks(pops, s),
-        Flow::Branch { kind, pops, target } => {
-            follow_branch(kind, pops, target, behind, limit, s, tops, marks)
-        }
-    }
-}
-
-fn follow_branch(
-    kind: Branch,
-    pops: usize,
-    target: Quadwords,
-    behind: Quadwords,
-    limit: usize,
-    s: Frames,
-    tops: &[usize],
-    marks: &[usize],
-) -> Moved
-    ensures { result ≡ followed limit (flows.Branch kind pops target) behind.0 s tops.now marks.now }
-{
-    match kind {
-        Branch::LoopEnd => steps::end_loop(s, tops, marks),
-        Branch::LoopStart => steps::enter_loop(limit, behind, s),
-        Branch::BreakOrContinue => steps::need_marks(pops, s),
-        Branch::Jump => steps::need_marks(pops, s),
-        Branch::Else => steps::need_top_mark(pops, s),
-        Branch::Pop => steps::pop_marks(pops, s),
+        Flow::Still => Ok(s),
+        Flow::PushMark => s.push_mark(limit),
+        Flow::PopMarks(pops) => s.pop_marks(pops),
+        Flow::Branch { kind, pops, .. } => match kind {
+            Branch::LoopEnd => s.end_loop(rows),
+            Branch::LoopStart => s.enter_loop(limit, behind),
+            Branch::BreakOrContinue | Branch::Jump => s.need_marks(pops),
+            Branch::Else => s.need_top_mark(pops),
+            Branch::Pop => s.pop_marks(pops),
+        },
     }
 }
 
 // The second pass over a section of so many pairs, whose rows the first pass has filled: the first broken check of rules 18 and
 // 19.
-pub fn second_pass(words: &[u32], pairs: Quadwords, tops: &[usize], marks: &[usize]) -> Verdict
-    ensures { result ≡ first_broken (below (row_checks (flow_at words.now) (pairs.0 - 1) tops.now marks.now) pairs.0) }
+pub fn second_pass(words: &[u32], pairs: Quadwords, rows: &[Row]) -> Verdict
+    ensures { result ≡ first_broken (below (row_checks (flow_at words.now) (pairs.0 - 1) rows.now) pairs.0) }
 {
     let end = units::quadword_before(pairs);
-    let mut p = Quadwords(0);
-    while units::is_below(p, pairs) {
-        let start = rows::start_at(tops, p);
-        let flow = targets::flow_at(words, p);
-        if targets::is_wrong(words, flow, end, p) {
-            return Verdict::Refused {
-                rule: 18,
-                place: Place::Quadword(p),
-                slot: Slots(0),
-            };
-        }
-        if stacks::differ(words, flow, p, start, tops, marks) {
-            return Verdict::Refused {
-                rule: 19,
-                place: Place::Quadword(p),
-                slot: Slots(0),
-            };
-        }
-        p = units::quadword_behind(p);
+    for p in 0..pairs.0 {
+        pair_verdict(words, end, Quadwords(p), rows)?;
     }
-    Verdict::Accepted
+    Ok(())
+}
+
+fn pair_verdict(words: &[u32], end: Quadwords, p: Quadwords, rows: &[Row]) -> Verdict
+    ensures { result ≡ first_broken (row_checks (flow_at words.now) end.0 rows.now p.0) }
+{
+    let flow = targets::flow_at(words, p);
+    if targets::is_wrong(words, flow, end, p) {
+        return Err(Refusal::of_place(18, Place::Quadword(p)));
+    }
+    if stacks::differ(words, flow, p, rows) {
+        return Err(Refusal::of_place(19, Place::Quadword(p)));
+    }
+    Ok(())
 }

@@ -1,61 +1,38 @@
 // Rows of two numbers: the stacks that the first pass found, one row for each place.
-ghost use Rattle.std.specs.Prelude.{◌≡◌, get_or};
-ghost use Rattle.units.specs.Units.{quadwords, quadword_before};
-ghost use Rattle.walk.specs.CodeRows.{same_row, row_carries};
+ghost use Rattle.std.specs.Prelude.{◌≡◌, ◌&&◌, eqb};
+ghost use Rattle.walk.specs.CodeRows.{row_at, same_row, row_carries};
 
 use units::Quadwords;
 
-// A number of a row; 0 behind the last row.
-pub(crate) fn row_at(numbers: &[usize], place: Quadwords) -> usize
-    ensures { result ≡ get_or numbers.now place.0 0 }
-{
-    let at = place.0;
-    if at < numbers.len() { numbers[at] } else { 0 }
+// A stack in two numbers: `marks` frames M over the frame of the loop that starts before `top`, over nothing where `top` is 0.
+#[derive(Clone, Copy, Debug, PartialEq, Eq)]
+pub struct Row {
+    pub top: Quadwords,
+    pub marks: usize,
 }
 
-// The place behind the start of the innermost loop at `place`; 0 outside of loops.
-pub(crate) fn loop_at(tops: &[usize], place: Quadwords) -> Quadwords
-    ensures { result ≡ quadwords (get_or tops.now place.0 0) }
-{
-    Quadwords(row_at(tops, place))
+impl Row {
+    // The empty stack.
+    pub const EMPTY: Row = Row {
+        top: Quadwords(0),
+        marks: 0,
+    };
 }
 
-// That loop's start; 0 outside of loops too.
-pub(crate) fn start_at(tops: &[usize], place: Quadwords) -> Quadwords
-    ensures { result ≡ quadword_before (quadwords (get_or tops.now place.0 0)) }
+// The row of a place; the empty stack behind the last row.
+pub(crate) fn row_at(rows: &[Row], place: Quadwords) -> Row
+    ensures { result ≡ row_at rows.now place.0 }
 {
-    units::quadword_before(loop_at(tops, place))
-}
-
-// Whether the stack of two numbers stood at `place`.
-pub(crate) fn is_row(
-    tops: &[usize],
-    marks: &[usize],
-    place: Quadwords,
-    top: Quadwords,
-    m: usize,
-) -> bool
-    ensures { result ≡ same_row tops.now marks.now place.0 top.0 m }
-{
-    if top.0 != row_at(tops, place) {
-        return false;
-    }
-    m == row_at(marks, place)
+    rows.get(place.0).copied().unwrap_or(Row::EMPTY)
 }
 
 // Whether the stack at `place`, with `pops` frames M fewer, stood at the target.
-pub(crate) fn is_carried(
-    tops: &[usize],
-    marks: &[usize],
-    place: Quadwords,
-    pops: usize,
-    target: Quadwords,
-) -> bool
-    ensures { result ≡ row_carries tops.now marks.now place.0 pops target.0 }
+pub(crate) fn is_carried(rows: &[Row], place: Quadwords, pops: usize, target: Quadwords) -> bool
+    ensures { result ≡ row_carries rows.now place.0 pops target.0 }
 {
-    let m = row_at(marks, place);
-    if pops > m {
-        return false;
+    let Row { top, marks } = row_at(rows, place);
+    match marks.checked_sub(pops) {
+        Some(marks) => row_at(rows, target) == Row { top, marks },
+        None => false,
     }
-    is_row(tops, marks, target, loop_at(tops, place), m - pops)
 }

@@ -3,99 +3,92 @@
 ghost use Rattle.std.specs.Prelude.{◌≡◌};
 ghost use Rattle.walk.specs.CodeRows.{pushed, entered, popped, needing, needing_top, ended};
 
-use crate::rows::{loop_at, row_at};
-use crate::{Frames, Moved};
+use crate::rows::{Row, row_at};
+use crate::{Frames, StackFault};
 use units::Quadwords;
 
-// One M more.
-pub(crate) fn push_mark(limit: usize, s: Frames) -> Moved
-    ensures { result ≡ pushed limit s }
-{
-    if s.depth >= limit {
-        return Moved::TooDeep;
+impl Frames {
+    // One M more.
+    pub(crate) fn push_mark(self, limit: usize) -> Result<Frames, StackFault>
+        ensures { result ≡ pushed limit self }
+    {
+        let Frames { row, depth } = self;
+        if depth >= limit || row.marks >= limit {
+            return Err(StackFault::TooDeep);
+        }
+        Ok(Frames {
+            row: Row {
+                top: row.top,
+                marks: row.marks + 1,
+            },
+            depth: depth + 1,
+        })
     }
-    if s.marks >= limit {
-        return Moved::TooDeep;
-    }
-    let top = s.top;
-    Moved::To(Frames {
-        top,
-        marks: s.marks + 1,
-        depth: s.depth + 1,
-    })
-}
 
-// The frame of the loop that starts before `behind`.
-pub(crate) fn enter_loop(limit: usize, behind: Quadwords, s: Frames) -> Moved
-    ensures { result ≡ entered limit behind.0 s }
-{
-    if s.depth < limit {
-        return Moved::To(Frames {
-            top: behind,
-            marks: 0,
-            depth: s.depth + 1,
-        });
+    // The frame of the loop that starts before `behind`.
+    pub(crate) fn enter_loop(self, limit: usize, behind: Quadwords) -> Result<Frames, StackFault>
+        ensures { result ≡ entered limit behind.0 self }
+    {
+        if self.depth >= limit {
+            return Err(StackFault::TooDeep);
+        }
+        Ok(Frames {
+            row: Row {
+                top: behind,
+                marks: 0,
+            },
+            depth: self.depth + 1,
+        })
     }
-    Moved::TooDeep
-}
 
-// `pops` frames M fewer.
-pub(crate) fn pop_marks(pops: usize, s: Frames) -> Moved
-    ensures { result ≡ popped pops s }
-{
-    if pops > s.marks {
-        return Moved::Lacks;
+    // `pops` frames M fewer.
+    pub(crate) fn pop_marks(self, pops: usize) -> Result<Frames, StackFault>
+        ensures { result ≡ popped pops self }
+    {
+        let Frames { row, depth } = self;
+        if row.marks < pops || depth < pops {
+            return Err(StackFault::Lacks);
+        }
+        Ok(Frames {
+            row: Row {
+                top: row.top,
+                marks: row.marks - pops,
+            },
+            depth: depth - pops,
+        })
     }
-    if pops > s.depth {
-        return Moved::Lacks;
-    }
-    let top = s.top;
-    Moved::To(Frames {
-        top,
-        marks: s.marks - pops,
-        depth: s.depth - pops,
-    })
-}
 
-// A "yes" would pop `pops` frames M; a "no" leaves the stack as it is.
-pub(crate) fn need_marks(pops: usize, s: Frames) -> Moved
-    ensures { result ≡ needing pops s }
-{
-    if s.marks < pops {
-        return Moved::Lacks;
+    // A "yes" would pop `pops` frames M; a "no" leaves the stack as it is.
+    pub(crate) fn need_marks(self, pops: usize) -> Result<Frames, StackFault>
+        ensures { result ≡ needing pops self }
+    {
+        if self.row.marks < pops {
+            return Err(StackFault::Lacks);
+        }
+        Ok(self)
     }
-    Moved::To(s)
-}
 
-// The same, with M on top either way.
-pub(crate) fn need_top_mark(pops: usize, s: Frames) -> Moved
-    ensures { result ≡ needing_top pops s }
-{
-    if s.marks == 0 {
-        return Moved::Lacks;
+    // The same, with M on top either way.
+    pub(crate) fn need_top_mark(self, pops: usize) -> Result<Frames, StackFault>
+        ensures { result ≡ needing_top pops self }
+    {
+        if self.row.marks == 0 {
+            return Err(StackFault::Lacks);
+        }
+        self.need_marks(pops)
     }
-    need_marks(pops, s)
-}
 
-// The innermost loop's frame fewer: below it lies what stood at the loop's start.
-pub(crate) fn end_loop(s: Frames, tops: &[usize], marks: &[usize]) -> Moved
-    ensures { result ≡ ended s tops.now marks.now }
-{
-    if s.marks != 0 {
-        return Moved::Lacks;
+    // The innermost loop's frame fewer: below it lies what stood at the loop's start.
+    pub(crate) fn end_loop(self, rows: &[Row]) -> Result<Frames, StackFault>
+        ensures { result ≡ ended self rows.now }
+    {
+        let Frames { row, depth } = self;
+        if row.marks != 0 || row.top.0 == 0 || depth == 0 {
+            return Err(StackFault::Lacks);
+        }
+        Ok(Frames {
+            row: row_at(rows, units::quadword_before(row.top)),
+            depth: depth - 1,
+        })
     }
-    if s.top.0 == 0 {
-        return Moved::Lacks;
-    }
-    if s.depth == 0 {
-        return Moved::Lacks;
-    }
-    let start = units::quadword_before(s.top);
-    let top = loop_at(tops, start);
-    let below = row_at(marks, start);
-    Moved::To(Frames {
-        top,
-        marks: below,
-        depth: s.depth - 1,
-    })
 }
