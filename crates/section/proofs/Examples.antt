@@ -3,6 +3,7 @@ use mathlib.Core.Path.{◌≡◌, refl}
 use mathlib.Core.Bool.{Bool, true, false}
 use mathlib.Core.List.{List, [], ◌∷◌, ◌++◌, map}
 use Prim.Native.Nat.{ℕ, ◌+◌, ◌^◌}
+use Rattle.std.specs.Prelude.{Some, None}
 use lib.ListN.{replicate}
 use Rattle.units.specs.Units.{quadwords, slots, low_at, high_at}
 use Rattle.card.specs.declared.Kind.TheVariants.{Pixel, Vertex, Geometry}
@@ -12,7 +13,7 @@ use Rattle.opcodes.specs.declared.cf.Branch.TheVariants as branches
 use Rattle.opcodes.specs.declared.cf.Control.{Control}
 use Rattle.opcodes.specs.declared.cf.Control.TheVariants.{Nop, Fetch, Branch, Export, Alu}
 use Rattle.opcodes.specs.Numbers.{cf, cf_alu, cf_control, cf_alu_control}
-use Rattle.section.specs.declared.Clause.TheVariants.{NoClause, AluClause, FetchClause}
+use Rattle.section.specs.declared.Clause.TheVariants as clause
 use Rattle.section.specs.Control.{is_alu_opener, control_of, control_at, is_end, end_from, end_of}
 use Rattle.section.specs.Rules.{bad_length, no_end, is_not_taken, bad_modes, bad_still, bad_branch, bad_reserved, bad_field, clause_of, clause_at, outside, bad_range, pixel_target, vertex_target, bad_target, bad_selectors, bad_export_register, export_rule, bad_export, export_names}
 
@@ -114,12 +115,12 @@ alu_free = refl
 -- ---- 6
 
 -- COUNT 0 is one slot, 127 is 128; ADDR has 22 bits
-alu_clauses : (clause_at copy 0 ≡ AluClause (quadwords 2) (slots 1) false 0 0) × (clause_of alu 0xffffffff 0xa1fc0002 ≡ AluClause (quadwords 0x3fffff) (slots 128) false 3 2)
+alu_clauses : (clause_at copy 0 ≡ Some (clause.Alu (quadwords 2) (slots 1) false 0 0)) × (clause_of alu 0xffffffff 0xa1fc0002 ≡ Some (clause.Alu (quadwords 0x3fffff) (slots 128) false 3 2))
 unfolding clause_at clause_of control_at low_at high_at control_of is_alu_opener cf_alu_control cf_alu
 alu_clauses = (refl, refl)
 
 -- COUNT of a fetch opener in two pieces: 7 is 8 fetches, with bit 19 it is 16
-fetch_clauses : (clause_of tex 5 0x00801c00 ≡ FetchClause (quadwords 5) (slots 8) fetches.Texture) × (clause_of (Fetch fetches.Vertex) 5 0x01081c00 ≡ FetchClause (quadwords 5) (slots 16) fetches.Vertex) × (clause_of jump 5 0x05001c00 ≡ NoClause)
+fetch_clauses : (clause_of tex 5 0x00801c00 ≡ Some (clause.Fetch (quadwords 5) (slots 8) fetches.Texture)) × (clause_of (Fetch fetches.Vertex) 5 0x01081c00 ≡ Some (clause.Fetch (quadwords 5) (slots 16) fetches.Vertex)) × (clause_of jump 5 0x05001c00 ≡ None)
 unfolding clause_of
 fetch_clauses = (refl, refl, refl)
 

@@ -19,6 +19,7 @@ use Rattle.opcodes.specs.declared.cf.Control.{Control}
 use Rattle.opcodes.specs.declared.cf.Control.TheVariants.{NotTaken, Nop, Fetch, Branch, Export, Alu}
 use Rattle.opcodes.specs.Numbers.{is_export}
 use Rattle.laws.proofs.OfTests.{both, neither, or_right}
+use Rattle.section.specs.declared.Range.{Range}
 use Rattle.section.specs.Control.{is_alu_opener, is_end, control_of}
 use Rattle.section.specs.Rules.{bad_length, is_not_taken, bad_modes, bad_branch, bad_field, outside, bad_target, bad_selectors, bad_export_register, export_rule, bad_export, registers_from, export_names}
 use Rattle.section.proofs.OfControl.{is_alu, not_alu}
@@ -69,15 +70,13 @@ at_end hi h t f = may_end (control_of hi) hi (branch_at_end hi h) (not_alu hi (e
 
 -- ---- 6: a range that is not outside starts behind e and ends by quads
 
-pub inside : (e quads start size : Quadwords) → outside e quads start size ≡ false → (e.0 < start.0) × (start.0 + size.0 ≤ quads.0)
+pub inside : (e quads : Quadwords) (r : Range) → outside e quads r ≡ false → (e.0 < r.start.0) × (r.start.0 + r.size.0 ≤ quads.0)
 unfolding outside
-inside e quads start size h = (
-  ltb-true e.0 start.0
-      (not-false (is_below e start) (neither (not (is_below e start)) (not (is_at_most (range_end start size) quads)) h).0),
-  leb-true (start.0 + size.0) quads.0
-      (not-false (is_at_most (range_end start size) quads)
-      (neither (not (is_below e start)) (not (is_at_most (range_end start size) quads)) h).1),
-)
+inside e quads r h =
+    let sides = neither (not (is_below e r.start)) (not (is_at_most (range_end r.start r.size) quads)) h in (
+      ltb-true e.0 r.start.0 (not-false (is_below e r.start) sides.0),
+      leb-true (r.start.0 + r.size.0) quads.0 (not-false (is_at_most (range_end r.start r.size) quads) sides.1),
+    )
 
 -- ---- 7: every register that an export names is granted
 

@@ -1,10 +1,11 @@
 -- Rules 2 to 7: document 01, "Numbers and what they mean" and "Control-flow words". Rules 4 to 7 are asked of one control-flow
 -- pair, by what it is and by its words.
-use Rattle.std.specs.Prelude.{ℕ, zero, suc, ◌+◌, Bool, true, false, cond, not, ◌&&◌, ◌||◌, List, [], ◌∷◌, eqb, ltb, leb, length}
+use Rattle.std.specs.Prelude.{ℕ, zero, suc, ◌+◌, Bool, true, false, cond, not, ◌&&◌, ◌||◌, Option, Some, None, List, [], ◌∷◌, eqb, ltb, leb, length}
 use Rattle.units.specs.declared.Quadwords.{Quadwords}
 use Rattle.units.specs.Units.{quadwords, slots, low_at, high_at, words_of, counted, slots_length, fetches_length, range_end, is_below, is_at_most}
 use Rattle.formats.specs.Fields.{◌of◌, «ADDR», «COND», BIT_20, END_OF_PROGRAM, VALID_PIXEL_MODE, WHOLE_QUAD_MODE, CF_ALU_ADDR, CF_ALU_COUNT, KCACHE_MODE0, KCACHE_MODE1, ARRAY_BASE, «TYPE», RW_GPR, RW_REL, SEL_X, SEL_Y, SEL_Z, SEL_W, BITS_16_12, BURST_COUNT}
 use Rattle.formats.specs.Cf.{count_of}
+use Rattle.opcodes.specs.declared.cf.FetchKind.{FetchKind}
 use Rattle.opcodes.specs.declared.cf.Control.{Control}
 use Rattle.opcodes.specs.declared.cf.Control.TheVariants.{NotTaken, Nop, Fetch, Branch, Export, Alu}
 use Rattle.opcodes.specs.Numbers.{is_taken, is_export}
@@ -12,7 +13,8 @@ use Rattle.card.specs.declared.Kind.{Kind}
 use Rattle.card.specs.declared.Kind.TheVariants.{Pixel, Vertex, Geometry}
 use Rattle.grants.specs.Grants.{Name, register}
 use Rattle.section.specs.declared.Clause.{Clause}
-use Rattle.section.specs.declared.Clause.TheVariants.{NoClause, AluClause, FetchClause}
+use Rattle.section.specs.declared.Clause.TheVariants as clause
+use Rattle.section.specs.declared.Range.{Range}
 use Rattle.section.specs.Control.{control_at, searched, end_of}
 
 -- 2: length is not 2 times quads words
@@ -56,27 +58,38 @@ bad_field (Alu push pops) hi = false
 
 -- ---- 6: the clause that a pair opens: its start, its COUNT+1 slots or fetches, and what is to be known inside it
 
-unfoldable pub clause_of : Control → ℕ → ℕ → Clause
-clause_of NotTaken lo hi = NoClause
-clause_of Nop lo hi = NoClause
-clause_of (Fetch kind) lo hi = FetchClause (quadwords («ADDR» of lo)) (counted (count_of hi)) kind
-clause_of (Branch b) lo hi = NoClause
-clause_of Export lo hi = NoClause
-clause_of (Alu push pops) lo hi =
-    AluClause (quadwords (CF_ALU_ADDR of lo)) (counted (slots (CF_ALU_COUNT of hi))) push (KCACHE_MODE0 of lo) (KCACHE_MODE1 of hi)
+abbrev pub fetch_clause : FetchKind → ℕ → ℕ → Clause
+fetch_clause kind lo hi = clause.Fetch (quadwords («ADDR» of lo)) (counted (count_of hi)) kind
 
-unfoldable pub clause_at : List ℕ → ℕ → Clause
+-- of whether it pushes M, and the words
+abbrev pub alu_clause : Bool → ℕ → ℕ → Clause
+alu_clause push lo hi =
+    clause.Alu (quadwords (CF_ALU_ADDR of lo)) (counted (slots (CF_ALU_COUNT of hi))) push (KCACHE_MODE0 of lo) (KCACHE_MODE1 of hi)
+
+unfoldable pub clause_of : Control → ℕ → ℕ → Option Clause
+clause_of NotTaken lo hi = None
+clause_of Nop lo hi = None
+clause_of (Fetch kind) lo hi = Some (fetch_clause kind lo hi)
+clause_of (Branch b) lo hi = None
+clause_of Export lo hi = None
+clause_of (Alu push pops) lo hi = Some (alu_clause push lo hi)
+
+unfoldable pub clause_at : List ℕ → ℕ → Option Clause
 clause_at w p = clause_of (control_at w p) (low_at w p) (high_at w p)
 
--- not (start is above e, and start plus length, here size, at most quads)
-unfoldable pub outside : Quadwords → Quadwords → Quadwords → Quadwords → Bool
-outside e quads start size = not (is_below e start) || not (is_at_most (range_end start size) quads)
+-- the quadwords of a clause: slots of one each, or fetches of two
+abbrev pub range_of : Clause → Range
+range_of (clause.Alu start n push mode0 mode1) = record { start = start; size = slots_length n }
+range_of (clause.Fetch start n kind) = record { start = start; size = fetches_length n }
 
--- of the end e, quads and a clause: slots of one quadword each, or fetches of two, wholly behind e and inside the buffer
-unfoldable pub bad_range : Quadwords → Quadwords → Clause → Bool
-bad_range e quads NoClause = false
-bad_range e quads (AluClause start n push mode0 mode1) = outside e quads start (slots_length n)
-bad_range e quads (FetchClause start n kind) = outside e quads start (fetches_length n)
+-- not (start is above e, and start plus length, here size, at most quads)
+unfoldable pub outside : Quadwords → Quadwords → Range → Bool
+outside e quads r = not (is_below e r.start) || not (is_at_most (range_end r.start r.size) quads)
+
+-- of the end e, quads and a clause: not wholly behind e and inside the buffer
+unfoldable pub bad_range : Quadwords → Quadwords → Option Clause → Bool
+bad_range e quads None = false
+bad_range e quads (Some c) = outside e quads (range_of c)
 
 -- ---- 7: exports
 

@@ -5,9 +5,9 @@
 
 ghost use Rattle.std.specs.Prelude.{◌≡◌};
 ghost use Rattle.units.specs.Units.{quadwords};
-ghost use Rattle.opcodes.specs.declared.cf.Control.TheVariants as variant;
 ghost use Rattle.section.specs.Control.{searched, end_of, control_of};
-ghost use Rattle.section.specs.Rules.{bad_length, is_not_taken, bad_field, clause_of, outside, bad_range, bad_export};
+ghost use Rattle.section.specs.Rules.{bad_length, is_not_taken, bad_field, alu_clause, fetch_clause, clause_of, range_of, outside, bad_range, bad_export};
+ghost use Rattle.section.specs.Code.{range_in_64};
 
 mod export_rule;
 mod field_rule;
@@ -25,8 +25,7 @@ const MOST_PAIRS: usize = 512;
 // The clause that a pair opens: where it starts, how many slots or fetches it has, and what is to be known inside it.
 #[derive(Clone, Copy)]
 pub enum Clause {
-    NoClause,
-    AluClause {
+    Alu {
         start: Quadwords,
         slots: Slots,
         // PUSH_BEFORE's holds exactly one predicate setter.
@@ -35,11 +34,36 @@ pub enum Clause {
         mode0: u32,
         mode1: u32,
     },
-    FetchClause {
+    Fetch {
         start: Quadwords,
         fetches: Slots,
         kind: FetchKind,
     },
+}
+
+// The quadwords of a clause: the first, and how many there are.
+#[derive(Clone, Copy, Debug, PartialEq, Eq)]
+pub struct Range {
+    pub start: Quadwords,
+    pub size: Quadwords,
+}
+
+impl Clause {
+    // A slot takes one quadword, a fetch two.
+    pub fn range(self) -> Range
+        ensures { result ≡ range_in_64 (range_of self) }
+    {
+        match self {
+            Clause::Alu { start, slots, .. } => Range {
+                start,
+                size: units::slots_length(slots),
+            },
+            Clause::Fetch { start, fetches, .. } => Range {
+                start,
+                size: units::fetches_length(fetches),
+            },
+        }
+    }
 }
 
 // What a pair is, by its high word.
@@ -63,11 +87,7 @@ pub fn is_bad_length(words: &[u32], quads: Quadwords) -> bool
 pub fn searched_pairs(words: &[u32]) -> Quadwords
     ensures { result ≡ quadwords (searched words.now) }
 {
-    let whole = units::whole_quadwords(Words(words.len()));
-    if units::is_below(whole, Quadwords(MOST_PAIRS)) {
-        return whole;
-    }
-    Quadwords(MOST_PAIRS)
+    units::whole_quadwords(Words(words.len())).min(Quadwords(MOST_PAIRS))
 }
 
 // The paper's end, e; where there is none, the number of pairs searched, which is rule 3.
@@ -75,13 +95,10 @@ pub fn find_end(words: &[u32]) -> Quadwords
     ensures { result ≡ quadwords (end_of words.now) }
 {
     let pairs = searched_pairs(words);
-    let mut p = Quadwords(0);
-    while units::is_below(p, pairs) {
-        let at = units::high_word(p).0;
-        if numbers::is_end(words[at]) {
-            return p;
+    for p in 0..pairs.0 {
+        if numbers::is_end(words[units::high_word(Quadwords(p)).0]) {
+            return Quadwords(p);
         }
-        p = units::quadword_behind(p);
     }
     pairs
 }
@@ -94,42 +111,37 @@ pub fn is_not_taken(control: Control) -> bool
 }
 
 // Rule 5.
+#[tactic(auto, unfolding(crate::specs::Rules::bad_field))]
 pub fn is_bad_field(control: Control, high: u32) -> bool
     ensures { result ≡ bad_field control high }
 {
     match control {
-        Control::NotTaken => field_rule::is_bad_branch(high),
-        Control::Nop => field_rule::is_bad_still(high),
-        Control::Fetch(_) => field_rule::is_bad_still(high),
-        Control::Branch(_) => field_rule::is_bad_branch(high),
+        Control::Nop | Control::Fetch(_) => field_rule::is_bad_still(high),
+        Control::NotTaken | Control::Branch(_) => field_rule::is_bad_branch(high),
         Control::Export => field_rule::is_bad_reserved(high),
-        Control::Alu { pushes: _, pops: _ } => false,
+        Control::Alu { .. } => false,
     }
 }
 
 // The clause that a pair opens.
-pub fn clause_of(control: Control, low: u32, high: u32) -> Clause
+#[tactic(auto, unfolding(crate::specs::Rules::clause_of))]
+pub fn clause_of(control: Control, low: u32, high: u32) -> Option<Clause>
     ensures { result ≡ clause_of control low high }
 {
     match control {
-        Control::NotTaken => Clause::NoClause,
-        Control::Nop => Clause::NoClause,
-        Control::Fetch(kind) => fetch_clause(low, high, kind),
-        Control::Branch(_) => Clause::NoClause,
-        Control::Export => Clause::NoClause,
-        Control::Alu { pushes, pops } => alu_clause(low, high, pushes, pops),
+        Control::Fetch(kind) => Some(fetch_clause(low, high, kind)),
+        Control::Alu { pushes, .. } => Some(alu_clause(low, high, pushes)),
+        Control::NotTaken | Control::Nop | Control::Branch(_) | Control::Export => None,
     }
 }
 
-fn alu_clause(low: u32, high: u32, pushes: bool, pops: usize) -> Clause
-    ensures { result ≡ clause_of (variant.Alu pushes pops) low high }
+fn alu_clause(low: u32, high: u32, pushes: bool) -> Clause
+    ensures { result ≡ alu_clause pushes low high }
 {
-    let start = Quadwords(read(low, fields::CF_ALU_ADDR) as usize);
     let count = Slots(read(high, fields::CF_ALU_COUNT) as usize);
-    let counted = units::counted_by(count);
-    Clause::AluClause {
-        start,
-        slots: counted,
+    Clause::Alu {
+        start: Quadwords(read(low, fields::CF_ALU_ADDR) as usize),
+        slots: units::counted_by(count),
         push_before: pushes,
         mode0: read(low, fields::KCACHE_MODE0),
         mode1: read(high, fields::KCACHE_MODE1),
@@ -137,55 +149,38 @@ fn alu_clause(low: u32, high: u32, pushes: bool, pops: usize) -> Clause
 }
 
 fn fetch_clause(low: u32, high: u32, kind: FetchKind) -> Clause
-    ensures { result ≡ clause_of (variant.Fetch kind) low high }
+    ensures { result ≡ fetch_clause kind low high }
 {
-    let start = Quadwords(read(low, fields::ADDR) as usize);
-    let count = formats::cf::read_count(high);
-    let fetches = units::counted_by(count);
-    Clause::FetchClause {
-        start,
-        fetches,
+    Clause::Fetch {
+        start: Quadwords(read(low, fields::ADDR) as usize),
+        fetches: units::counted_by(formats::cf::read_count(high)),
         kind,
     }
 }
 
 // Rule 6.
-pub fn is_bad_range(end: Quadwords, quads: Quadwords, clause: Clause) -> bool
+#[tactic(auto, unfolding(crate::specs::Rules::bad_range))]
+pub fn is_bad_range(end: Quadwords, quads: Quadwords, clause: Option<Clause>) -> bool
     ensures { result ≡ bad_range end quads clause }
 {
     match clause {
-        Clause::NoClause => false,
-        Clause::AluClause {
-            start,
-            slots,
-            push_before: _,
-            mode0: _,
-            mode1: _,
-        } => is_outside(end, quads, start, units::slots_length(slots)),
-        Clause::FetchClause {
-            start,
-            fetches,
-            kind: _,
-        } => is_outside(end, quads, start, units::fetches_length(fetches)),
+        None => false,
+        Some(clause) => is_outside(end, quads, clause.range()),
     }
 }
 
-// Behind the end, and inside the buffer.
-fn is_outside(end: Quadwords, quads: Quadwords, start: Quadwords, size: Quadwords) -> bool
-    ensures { result ≡ outside end quads start size }
+// Not behind the end, or not inside the buffer.
+#[tactic(auto, unfolding(crate::specs::Rules::outside))]
+fn is_outside(end: Quadwords, quads: Quadwords, range: Range) -> bool
+    ensures { result ≡ outside end quads range }
 {
-    if !units::is_below(end, start) {
-        return true;
-    }
-    !units::ends_by(start, size, quads)
+    range.start <= end || !units::ends_by(range.start, range.size, quads)
 }
 
 // Rule 7, which no other pair breaks.
+#[tactic(auto, unfolding(crate::specs::Rules::bad_export))]
 pub fn is_bad_export(control: Control, kind: Kind, gprs: u32, low: u32, high: u32) -> bool
     ensures { result ≡ bad_export control kind gprs low high }
 {
-    if opcodes::cf::is_export(control) {
-        return export_rule::is_bad_export_pair(kind, gprs, low, high);
-    }
-    false
+    opcodes::cf::is_export(control) && export_rule::is_bad_export_pair(kind, gprs, low, high)
 }

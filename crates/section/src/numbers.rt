@@ -6,6 +6,7 @@ use bits::read;
 use formats::fields;
 
 // Bit 29 of the high word tells an ALU clause opener (CF_ALU) from any other pair.
+#[tactic(auto, unfolding(crate::specs::Control::is_alu_opener))]
 pub(crate) fn is_alu_opener(high: u32) -> bool
     ensures { result ≡ is_alu_opener high }
 {
@@ -13,11 +14,9 @@ pub(crate) fn is_alu_opener(high: u32) -> bool
 }
 
 // The end bit, 21, which in an ALU clause opener is part of COUNT.
+#[tactic(auto, unfolding(crate::specs::Control::is_end))]
 pub(crate) fn is_end(high: u32) -> bool
     ensures { result ≡ is_end high }
 {
-    if is_alu_opener(high) {
-        return false;
-    }
-    read(high, fields::END_OF_PROGRAM) == 1
+    !is_alu_opener(high) && read(high, fields::END_OF_PROGRAM) == 1
 }
