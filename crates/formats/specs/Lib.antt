@@ -1,5 +1,6 @@
 -- The root of what the contracts cite.
 pub mod Fields
+pub mod Laws
 pub mod Cf
 pub mod CfAlu
 pub mod Export

@@ -1,9 +1,11 @@
--- Texture fetches: TEX_WORD0, TEX_WORD1 and TEX_WORD2, section 10.4. `..Fields` has the fields in
--- their order, each with AMD's name there, `..Table` where they stand, `..Values` the record's fields in the same order, and `..Of` is the record
+-- Texture fetches: TEX_WORD0, TEX_WORD1 and TEX_WORD2, section 10.4. `.._fields` has the fields in
+-- their order, each with AMD's name there, `.._table` where they stand, `.._values` the record's fields in the same order, and `.._of` is the record
 -- that a word holds.
+use mathlib.Core.Path.{refl}
 use Rattle.std.specs.Prelude.{ℕ, ◌+◌, List, [], ◌∷◌, get_or}
 use Prim.Native.String.{String}
 use Rattle.bits.specs.declared.Bits.{Bits}
+use Rattle.formats.specs.Laws.{FormatLaws}
 use Rattle.formats.specs.Fields.{Field, positions, ◌of◌, FETCH_INST, BC_FRAC_MODE, RESERVED0_6, FETCH_WHOLE_QUAD, RESOURCE_ID, FETCH_SRC_GPR, FETCH_SRC_REL, TEX_ALT_CONST, RESERVED0_25, FETCH_DST_GPR, FETCH_DST_REL, RESERVED1_8, DST_SEL_X, DST_SEL_Y, DST_SEL_Z, DST_SEL_W, LOD_BIAS, COORD_TYPE_X, COORD_TYPE_Y, COORD_TYPE_Z, COORD_TYPE_W, OFFSET_X, OFFSET_Y, OFFSET_Z, SAMPLER_ID, TEX_SRC_SEL_X, SRC_SEL_Y, SRC_SEL_Z, SRC_SEL_W}
 use Rattle.formats.specs.declared.tex.TexWord0.{TexWord0}
 use Rattle.formats.specs.declared.tex.TexWord1.{TexWord1}
@@ -68,6 +70,10 @@ word0_at at vs =
       alt_const = get_or vs (at + 7) 0;
       reserved0_25 = get_or vs (at + 8) 0;
     }
+
+pub word0_laws : FormatLaws word0_table word0_values word0_of
+unfolding word0_fields
+word0_laws = record { filled = refl; read = λ n. refl; same = λ r s e i. word0_at 0 (e i) }
 
 -- ---- TEX_WORD1
 
@@ -141,6 +147,10 @@ word1_at at vs =
       coord_type_w = get_or vs (at + 11) 0;
     }
 
+pub word1_laws : FormatLaws word1_table word1_values word1_of
+unfolding word1_fields
+word1_laws = record { filled = refl; read = λ n. refl; same = λ r s e i. word1_at 0 (e i) }
+
 -- ---- TEX_WORD2
 
 unfoldable pub word2_fields : List (String × Field)
@@ -196,3 +206,7 @@ word2_at at vs =
       src_sel_z = get_or vs (at + 6) 0;
       src_sel_w = get_or vs (at + 7) 0;
     }
+
+pub word2_laws : FormatLaws word2_table word2_values word2_of
+unfolding word2_fields
+word2_laws = record { filled = refl; read = λ n. refl; same = λ r s e i. word2_at 0 (e i) }

@@ -1,9 +1,11 @@
--- Vertex fetches: VTX_WORD0, VTX_WORD1_GPR or VTX_WORD1_SEM, and VTX_WORD2, section 10.3. `..Fields` has the fields in
--- their order, each with AMD's name there, `..Table` where they stand, `..Values` the record's fields in the same order, and `..Of` is the record
+-- Vertex fetches: VTX_WORD0, VTX_WORD1_GPR or VTX_WORD1_SEM, and VTX_WORD2, section 10.3. `.._fields` has the fields in
+-- their order, each with AMD's name there, `.._table` where they stand, `.._values` the record's fields in the same order, and `.._of` is the record
 -- that a word holds.
+use mathlib.Core.Path.{refl}
 use Rattle.std.specs.Prelude.{ℕ, ◌+◌, List, [], ◌∷◌, get_or}
 use Prim.Native.String.{String}
 use Rattle.bits.specs.declared.Bits.{Bits}
+use Rattle.formats.specs.Laws.{FormatLaws}
 use Rattle.formats.specs.Fields.{Field, positions, ◌of◌, FETCH_INST, FETCH_TYPE, FETCH_WHOLE_QUAD, BUFFER_ID, FETCH_SRC_GPR, FETCH_SRC_REL, VTX_SRC_SEL_X, MEGA_FETCH_COUNT, FETCH_DST_GPR, FETCH_DST_REL, RESERVED1_8, DST_SEL_X, DST_SEL_Y, DST_SEL_Z, DST_SEL_W, USE_CONST_FIELDS, DATA_FORMAT, NUM_FORMAT_ALL, FORMAT_COMP_ALL, SRF_MODE_ALL, SEMANTIC_ID, «OFFSET», ENDIAN_SWAP, CONST_BUF_NO_STRIDE, MEGA_FETCH, VTX_ALT_CONST, RESERVED2_21}
 use Rattle.formats.specs.declared.vtx.VtxWord0.{VtxWord0}
 use Rattle.formats.specs.declared.vtx.VtxWord1Gpr.{VtxWord1Gpr}
@@ -65,6 +67,10 @@ word0_at at vs =
       src_sel_x = get_or vs (at + 6) 0;
       mega_fetch_count = get_or vs (at + 7) 0;
     }
+
+pub word0_laws : FormatLaws word0_table word0_values word0_of
+unfolding word0_fields
+word0_laws = record { filled = refl; read = λ n. refl; same = λ r s e i. word0_at 0 (e i) }
 
 -- ---- VTX_WORD1_GPR
 
@@ -138,6 +144,10 @@ gpr_at at vs =
       srf_mode_all = get_or vs (at + 11) 0;
     }
 
+pub gpr_laws : FormatLaws gpr_table gpr_values gpr_of
+unfolding gpr_fields
+gpr_laws = record { filled = refl; read = λ n. refl; same = λ r s e i. gpr_at 0 (e i) }
+
 -- ---- VTX_WORD1_SEM
 
 unfoldable pub sem_fields : List (String × Field)
@@ -206,6 +216,10 @@ sem_at at vs =
       srf_mode_all = get_or vs (at + 10) 0;
     }
 
+pub sem_laws : FormatLaws sem_table sem_values sem_of
+unfolding sem_fields
+sem_laws = record { filled = refl; read = λ n. refl; same = λ r s e i. sem_at 0 (e i) }
+
 -- ---- VTX_WORD2
 
 unfoldable pub word2_fields : List (String × Field)
@@ -253,3 +267,7 @@ word2_at at vs =
       alt_const = get_or vs (at + 4) 0;
       reserved2_21 = get_or vs (at + 5) 0;
     }
+
+pub word2_laws : FormatLaws word2_table word2_values word2_of
+unfolding word2_fields
+word2_laws = record { filled = refl; read = λ n. refl; same = λ r s e i. word2_at 0 (e i) }

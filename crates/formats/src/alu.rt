@@ -1,10 +1,7 @@
 // ALU instructions: ALU_WORD0 with ALU_WORD1_OP2 or ALU_WORD1_OP3.
-ghost use Rattle.std.specs.Prelude.{◌≡◌};
-ghost use Rattle.bits.specs.Tables.{word_of, fits_table};
 ghost use Rattle.formats.specs.Alu as format;
 
-use crate::fields;
-use bits::{fits, put, read};
+use crate::{Format, fields};
 
 // ALU_WORD0.
 #[derive(Clone, Copy)]
@@ -22,56 +19,58 @@ pub struct AluWord0 {
     pub last: u32,
 }
 
-pub fn read_word0(w: u32) -> AluWord0
-    ensures { result ≡ format.word0_of w }
-{
-    AluWord0 {
-        src0_sel: read(w, fields::SRC0_SEL),
-        src0_rel: read(w, fields::SRC0_REL),
-        src0_chan: read(w, fields::SRC0_CHAN),
-        src0_neg: read(w, fields::SRC0_NEG),
-        src1_sel: read(w, fields::SRC1_SEL),
-        src1_rel: read(w, fields::SRC1_REL),
-        src1_chan: read(w, fields::SRC1_CHAN),
-        src1_neg: read(w, fields::SRC1_NEG),
-        index_mode: read(w, fields::INDEX_MODE),
-        pred_sel: read(w, fields::PRED_SEL),
-        last: read(w, fields::LAST),
+impl Format for AluWord0 {
+    ghost table = { format.word0_table };
+
+    ghost values = { format.word0_values };
+
+    ghost of_word = { format.word0_of };
+
+    fn read(word: u32) -> AluWord0 {
+        AluWord0 {
+            src0_sel: bits::read(word, fields::SRC0_SEL),
+            src0_rel: bits::read(word, fields::SRC0_REL),
+            src0_chan: bits::read(word, fields::SRC0_CHAN),
+            src0_neg: bits::read(word, fields::SRC0_NEG),
+            src1_sel: bits::read(word, fields::SRC1_SEL),
+            src1_rel: bits::read(word, fields::SRC1_REL),
+            src1_chan: bits::read(word, fields::SRC1_CHAN),
+            src1_neg: bits::read(word, fields::SRC1_NEG),
+            index_mode: bits::read(word, fields::INDEX_MODE),
+            pred_sel: bits::read(word, fields::PRED_SEL),
+            last: bits::read(word, fields::LAST),
+        }
     }
-}
 
-// The word of a record, each field cut to its width.
-pub fn write_word0(r: AluWord0) -> u32
-    ensures { result ≡ word_of format.word0_table (format.word0_values r) }
-{
-    put(r.src0_sel, fields::SRC0_SEL)
-        | put(r.src0_rel, fields::SRC0_REL)
-        | put(r.src0_chan, fields::SRC0_CHAN)
-        | put(r.src0_neg, fields::SRC0_NEG)
-        | put(r.src1_sel, fields::SRC1_SEL)
-        | put(r.src1_rel, fields::SRC1_REL)
-        | put(r.src1_chan, fields::SRC1_CHAN)
-        | put(r.src1_neg, fields::SRC1_NEG)
-        | put(r.index_mode, fields::INDEX_MODE)
-        | put(r.pred_sel, fields::PRED_SEL)
-        | put(r.last, fields::LAST)
-}
+    fn write(self) -> u32 {
+        bits::put(self.src0_sel, fields::SRC0_SEL)
+            | bits::put(self.src0_rel, fields::SRC0_REL)
+            | bits::put(self.src0_chan, fields::SRC0_CHAN)
+            | bits::put(self.src0_neg, fields::SRC0_NEG)
+            | bits::put(self.src1_sel, fields::SRC1_SEL)
+            | bits::put(self.src1_rel, fields::SRC1_REL)
+            | bits::put(self.src1_chan, fields::SRC1_CHAN)
+            | bits::put(self.src1_neg, fields::SRC1_NEG)
+            | bits::put(self.index_mode, fields::INDEX_MODE)
+            | bits::put(self.pred_sel, fields::PRED_SEL)
+            | bits::put(self.last, fields::LAST)
+    }
 
-// Whether each field is within its width.
-pub fn word0_fits(r: AluWord0) -> bool
-    ensures { result ≡ fits_table format.word0_table (format.word0_values r) }
-{
-    fits(r.src0_sel, fields::SRC0_SEL)
-        & fits(r.src0_rel, fields::SRC0_REL)
-        & fits(r.src0_chan, fields::SRC0_CHAN)
-        & fits(r.src0_neg, fields::SRC0_NEG)
-        & fits(r.src1_sel, fields::SRC1_SEL)
-        & fits(r.src1_rel, fields::SRC1_REL)
-        & fits(r.src1_chan, fields::SRC1_CHAN)
-        & fits(r.src1_neg, fields::SRC1_NEG)
-        & fits(r.index_mode, fields::INDEX_MODE)
-        & fits(r.pred_sel, fields::PRED_SEL)
-        & fits(r.last, fields::LAST)
+    fn fits(self) -> bool {
+        bits::fits(self.src0_sel, fields::SRC0_SEL)
+            & bits::fits(self.src0_rel, fields::SRC0_REL)
+            & bits::fits(self.src0_chan, fields::SRC0_CHAN)
+            & bits::fits(self.src0_neg, fields::SRC0_NEG)
+            & bits::fits(self.src1_sel, fields::SRC1_SEL)
+            & bits::fits(self.src1_rel, fields::SRC1_REL)
+            & bits::fits(self.src1_chan, fields::SRC1_CHAN)
+            & bits::fits(self.src1_neg, fields::SRC1_NEG)
+            & bits::fits(self.index_mode, fields::INDEX_MODE)
+            & bits::fits(self.pred_sel, fields::PRED_SEL)
+            & bits::fits(self.last, fields::LAST)
+    }
+
+    ghost laws = { format.word0_laws };
 }
 
 // ALU_WORD1_OP2.
@@ -92,59 +91,61 @@ pub struct AluWord1Op2 {
     pub clamp: u32,
 }
 
-pub fn read_op2(w: u32) -> AluWord1Op2
-    ensures { result ≡ format.op2_of w }
-{
-    AluWord1Op2 {
-        src0_abs: read(w, fields::SRC0_ABS),
-        src1_abs: read(w, fields::SRC1_ABS),
-        update_execute_mask: read(w, fields::UPDATE_EXECUTE_MASK),
-        update_pred: read(w, fields::UPDATE_PRED),
-        write_mask: read(w, fields::WRITE_MASK),
-        omod: read(w, fields::OMOD),
-        alu_inst: read(w, fields::OP2_INST),
-        bank_swizzle: read(w, fields::BANK_SWIZZLE),
-        dst_gpr: read(w, fields::DST_GPR),
-        dst_rel: read(w, fields::DST_REL),
-        dst_chan: read(w, fields::DST_CHAN),
-        clamp: read(w, fields::CLAMP),
+impl Format for AluWord1Op2 {
+    ghost table = { format.op2_table };
+
+    ghost values = { format.op2_values };
+
+    ghost of_word = { format.op2_of };
+
+    fn read(word: u32) -> AluWord1Op2 {
+        AluWord1Op2 {
+            src0_abs: bits::read(word, fields::SRC0_ABS),
+            src1_abs: bits::read(word, fields::SRC1_ABS),
+            update_execute_mask: bits::read(word, fields::UPDATE_EXECUTE_MASK),
+            update_pred: bits::read(word, fields::UPDATE_PRED),
+            write_mask: bits::read(word, fields::WRITE_MASK),
+            omod: bits::read(word, fields::OMOD),
+            alu_inst: bits::read(word, fields::OP2_INST),
+            bank_swizzle: bits::read(word, fields::BANK_SWIZZLE),
+            dst_gpr: bits::read(word, fields::DST_GPR),
+            dst_rel: bits::read(word, fields::DST_REL),
+            dst_chan: bits::read(word, fields::DST_CHAN),
+            clamp: bits::read(word, fields::CLAMP),
+        }
     }
-}
 
-// The word of a record, each field cut to its width.
-pub fn write_op2(r: AluWord1Op2) -> u32
-    ensures { result ≡ word_of format.op2_table (format.op2_values r) }
-{
-    put(r.src0_abs, fields::SRC0_ABS)
-        | put(r.src1_abs, fields::SRC1_ABS)
-        | put(r.update_execute_mask, fields::UPDATE_EXECUTE_MASK)
-        | put(r.update_pred, fields::UPDATE_PRED)
-        | put(r.write_mask, fields::WRITE_MASK)
-        | put(r.omod, fields::OMOD)
-        | put(r.alu_inst, fields::OP2_INST)
-        | put(r.bank_swizzle, fields::BANK_SWIZZLE)
-        | put(r.dst_gpr, fields::DST_GPR)
-        | put(r.dst_rel, fields::DST_REL)
-        | put(r.dst_chan, fields::DST_CHAN)
-        | put(r.clamp, fields::CLAMP)
-}
+    fn write(self) -> u32 {
+        bits::put(self.src0_abs, fields::SRC0_ABS)
+            | bits::put(self.src1_abs, fields::SRC1_ABS)
+            | bits::put(self.update_execute_mask, fields::UPDATE_EXECUTE_MASK)
+            | bits::put(self.update_pred, fields::UPDATE_PRED)
+            | bits::put(self.write_mask, fields::WRITE_MASK)
+            | bits::put(self.omod, fields::OMOD)
+            | bits::put(self.alu_inst, fields::OP2_INST)
+            | bits::put(self.bank_swizzle, fields::BANK_SWIZZLE)
+            | bits::put(self.dst_gpr, fields::DST_GPR)
+            | bits::put(self.dst_rel, fields::DST_REL)
+            | bits::put(self.dst_chan, fields::DST_CHAN)
+            | bits::put(self.clamp, fields::CLAMP)
+    }
 
-// Whether each field is within its width.
-pub fn op2_fits(r: AluWord1Op2) -> bool
-    ensures { result ≡ fits_table format.op2_table (format.op2_values r) }
-{
-    fits(r.src0_abs, fields::SRC0_ABS)
-        & fits(r.src1_abs, fields::SRC1_ABS)
-        & fits(r.update_execute_mask, fields::UPDATE_EXECUTE_MASK)
-        & fits(r.update_pred, fields::UPDATE_PRED)
-        & fits(r.write_mask, fields::WRITE_MASK)
-        & fits(r.omod, fields::OMOD)
-        & fits(r.alu_inst, fields::OP2_INST)
-        & fits(r.bank_swizzle, fields::BANK_SWIZZLE)
-        & fits(r.dst_gpr, fields::DST_GPR)
-        & fits(r.dst_rel, fields::DST_REL)
-        & fits(r.dst_chan, fields::DST_CHAN)
-        & fits(r.clamp, fields::CLAMP)
+    fn fits(self) -> bool {
+        bits::fits(self.src0_abs, fields::SRC0_ABS)
+            & bits::fits(self.src1_abs, fields::SRC1_ABS)
+            & bits::fits(self.update_execute_mask, fields::UPDATE_EXECUTE_MASK)
+            & bits::fits(self.update_pred, fields::UPDATE_PRED)
+            & bits::fits(self.write_mask, fields::WRITE_MASK)
+            & bits::fits(self.omod, fields::OMOD)
+            & bits::fits(self.alu_inst, fields::OP2_INST)
+            & bits::fits(self.bank_swizzle, fields::BANK_SWIZZLE)
+            & bits::fits(self.dst_gpr, fields::DST_GPR)
+            & bits::fits(self.dst_rel, fields::DST_REL)
+            & bits::fits(self.dst_chan, fields::DST_CHAN)
+            & bits::fits(self.clamp, fields::CLAMP)
+    }
+
+    ghost laws = { format.op2_laws };
 }
 
 // ALU_WORD1_OP3.
@@ -163,51 +164,53 @@ pub struct AluWord1Op3 {
     pub clamp: u32,
 }
 
-pub fn read_op3(w: u32) -> AluWord1Op3
-    ensures { result ≡ format.op3_of w }
-{
-    AluWord1Op3 {
-        src2_sel: read(w, fields::SRC2_SEL),
-        src2_rel: read(w, fields::SRC2_REL),
-        src2_chan: read(w, fields::SRC2_CHAN),
-        src2_neg: read(w, fields::SRC2_NEG),
-        alu_inst: read(w, fields::OP3_INST),
-        bank_swizzle: read(w, fields::BANK_SWIZZLE),
-        dst_gpr: read(w, fields::DST_GPR),
-        dst_rel: read(w, fields::DST_REL),
-        dst_chan: read(w, fields::DST_CHAN),
-        clamp: read(w, fields::CLAMP),
+impl Format for AluWord1Op3 {
+    ghost table = { format.op3_table };
+
+    ghost values = { format.op3_values };
+
+    ghost of_word = { format.op3_of };
+
+    fn read(word: u32) -> AluWord1Op3 {
+        AluWord1Op3 {
+            src2_sel: bits::read(word, fields::SRC2_SEL),
+            src2_rel: bits::read(word, fields::SRC2_REL),
+            src2_chan: bits::read(word, fields::SRC2_CHAN),
+            src2_neg: bits::read(word, fields::SRC2_NEG),
+            alu_inst: bits::read(word, fields::OP3_INST),
+            bank_swizzle: bits::read(word, fields::BANK_SWIZZLE),
+            dst_gpr: bits::read(word, fields::DST_GPR),
+            dst_rel: bits::read(word, fields::DST_REL),
+            dst_chan: bits::read(word, fields::DST_CHAN),
+            clamp: bits::read(word, fields::CLAMP),
+        }
     }
-}
 
-// The word of a record, each field cut to its width.
-pub fn write_op3(r: AluWord1Op3) -> u32
-    ensures { result ≡ word_of format.op3_table (format.op3_values r) }
-{
-    put(r.src2_sel, fields::SRC2_SEL)
-        | put(r.src2_rel, fields::SRC2_REL)
-        | put(r.src2_chan, fields::SRC2_CHAN)
-        | put(r.src2_neg, fields::SRC2_NEG)
-        | put(r.alu_inst, fields::OP3_INST)
-        | put(r.bank_swizzle, fields::BANK_SWIZZLE)
-        | put(r.dst_gpr, fields::DST_GPR)
-        | put(r.dst_rel, fields::DST_REL)
-        | put(r.dst_chan, fields::DST_CHAN)
-        | put(r.clamp, fields::CLAMP)
-}
+    fn write(self) -> u32 {
+        bits::put(self.src2_sel, fields::SRC2_SEL)
+            | bits::put(self.src2_rel, fields::SRC2_REL)
+            | bits::put(self.src2_chan, fields::SRC2_CHAN)
+            | bits::put(self.src2_neg, fields::SRC2_NEG)
+            | bits::put(self.alu_inst, fields::OP3_INST)
+            | bits::put(self.bank_swizzle, fields::BANK_SWIZZLE)
+            | bits::put(self.dst_gpr, fields::DST_GPR)
+            | bits::put(self.dst_rel, fields::DST_REL)
+            | bits::put(self.dst_chan, fields::DST_CHAN)
+            | bits::put(self.clamp, fields::CLAMP)
+    }
 
-// Whether each field is within its width.
-pub fn op3_fits(r: AluWord1Op3) -> bool
-    ensures { result ≡ fits_table format.op3_table (format.op3_values r) }
-{
-    fits(r.src2_sel, fields::SRC2_SEL)
-        & fits(r.src2_rel, fields::SRC2_REL)
-        & fits(r.src2_chan, fields::SRC2_CHAN)
-        & fits(r.src2_neg, fields::SRC2_NEG)
-        & fits(r.alu_inst, fields::OP3_INST)
-        & fits(r.bank_swizzle, fields::BANK_SWIZZLE)
-        & fits(r.dst_gpr, fields::DST_GPR)
-        & fits(r.dst_rel, fields::DST_REL)
-        & fits(r.dst_chan, fields::DST_CHAN)
-        & fits(r.clamp, fields::CLAMP)
+    fn fits(self) -> bool {
+        bits::fits(self.src2_sel, fields::SRC2_SEL)
+            & bits::fits(self.src2_rel, fields::SRC2_REL)
+            & bits::fits(self.src2_chan, fields::SRC2_CHAN)
+            & bits::fits(self.src2_neg, fields::SRC2_NEG)
+            & bits::fits(self.alu_inst, fields::OP3_INST)
+            & bits::fits(self.bank_swizzle, fields::BANK_SWIZZLE)
+            & bits::fits(self.dst_gpr, fields::DST_GPR)
+            & bits::fits(self.dst_rel, fields::DST_REL)
+            & bits::fits(self.dst_chan, fields::DST_CHAN)
+            & bits::fits(self.clamp, fields::CLAMP)
+    }
+
+    ghost laws = { format.op3_laws };
 }

@@ -1,10 +1,8 @@
 // Control-flow instructions other than ALU clause openers and exports: CF_WORD0 and CF_WORD1.
 ghost use Rattle.std.specs.Prelude.{◌≡◌};
-ghost use Rattle.bits.specs.Tables.{word_of, fits_table};
 ghost use Rattle.formats.specs.Cf as format;
 
-use crate::{count_fits, fields, low_half};
-use bits::{fits, put, read};
+use crate::{Format, count_fits, fields, low_half};
 use units::{Quadwords, Slots};
 
 // CF_WORD0.
@@ -13,26 +11,28 @@ pub struct CfWord0 {
     pub addr: Quadwords,
 }
 
-pub fn read_word0(w: u32) -> CfWord0
-    ensures { result ≡ format.word0_of w }
-{
-    CfWord0 {
-        addr: Quadwords(read(w, fields::ADDR) as usize),
+impl Format for CfWord0 {
+    ghost table = { format.word0_table };
+
+    ghost values = { format.word0_values };
+
+    ghost of_word = { format.word0_of };
+
+    fn read(word: u32) -> CfWord0 {
+        CfWord0 {
+            addr: Quadwords(bits::read(word, fields::ADDR) as usize),
+        }
     }
-}
 
-// The word of a record, each field cut to its width.
-pub fn write_word0(r: CfWord0) -> u32
-    ensures { result ≡ word_of format.word0_table (format.word0_values r) }
-{
-    put(low_half(r.addr.0), fields::ADDR)
-}
+    fn write(self) -> u32 {
+        bits::put(low_half(self.addr.0), fields::ADDR)
+    }
 
-// Whether each field is within its width.
-pub fn word0_fits(r: CfWord0) -> bool
-    ensures { result ≡ fits_table format.word0_table (format.word0_values r) }
-{
-    count_fits(r.addr.0, fields::ADDR)
+    fn fits(self) -> bool {
+        count_fits(self.addr.0, fields::ADDR)
+    }
+
+    ghost laws = { format.word0_laws };
 }
 
 // CF_WORD1.
@@ -53,10 +53,10 @@ pub struct CfWord1 {
 }
 
 // COUNT, which a word holds in two pieces.
-pub fn read_count(w: u32) -> Slots
-    ensures { result ≡ format.count_of w }
+pub fn read_count(word: u32) -> Slots
+    ensures { result ≡ format.count_of word }
 {
-    Slots((read(w, fields::COUNT) + 8 * read(w, fields::COUNT_3)) as usize)
+    Slots((bits::read(word, fields::COUNT) + 8 * bits::read(word, fields::COUNT_3)) as usize)
 }
 
 // Its low three bits, and its top bit with what does not fit.
@@ -72,58 +72,60 @@ fn top_count(count: Slots) -> usize
     count.0 / 8
 }
 
-pub fn read_word1(w: u32) -> CfWord1
-    ensures { result ≡ format.word1_of w }
-{
-    CfWord1 {
-        pop_count: read(w, fields::POP_COUNT),
-        cf_const: read(w, fields::CF_CONST),
-        cond: read(w, fields::COND),
-        count: read_count(w),
-        call_count: read(w, fields::CALL_COUNT),
-        rest: read(w, fields::BIT_20),
-        end_of_program: read(w, fields::END_OF_PROGRAM),
-        valid_pixel_mode: read(w, fields::VALID_PIXEL_MODE),
-        cf_inst: read(w, fields::CF_INST),
-        whole_quad_mode: read(w, fields::WHOLE_QUAD_MODE),
-        barrier: read(w, fields::BARRIER),
+impl Format for CfWord1 {
+    ghost table = { format.word1_table };
+
+    ghost values = { format.word1_values };
+
+    ghost of_word = { format.word1_of };
+
+    fn read(word: u32) -> CfWord1 {
+        CfWord1 {
+            pop_count: bits::read(word, fields::POP_COUNT),
+            cf_const: bits::read(word, fields::CF_CONST),
+            cond: bits::read(word, fields::COND),
+            count: read_count(word),
+            call_count: bits::read(word, fields::CALL_COUNT),
+            rest: bits::read(word, fields::BIT_20),
+            end_of_program: bits::read(word, fields::END_OF_PROGRAM),
+            valid_pixel_mode: bits::read(word, fields::VALID_PIXEL_MODE),
+            cf_inst: bits::read(word, fields::CF_INST),
+            whole_quad_mode: bits::read(word, fields::WHOLE_QUAD_MODE),
+            barrier: bits::read(word, fields::BARRIER),
+        }
     }
-}
 
-// The word of a record, each field cut to its width.
-pub fn write_word1(r: CfWord1) -> u32
-    ensures { result ≡ word_of format.word1_table (format.word1_values r) }
-{
-    let count = r.count;
-    put(r.pop_count, fields::POP_COUNT)
-        | put(r.cf_const, fields::CF_CONST)
-        | put(r.cond, fields::COND)
-        | put(low_half(low_count(count)), fields::COUNT)
-        | put(r.call_count, fields::CALL_COUNT)
-        | put(low_half(top_count(count)), fields::COUNT_3)
-        | put(r.rest, fields::BIT_20)
-        | put(r.end_of_program, fields::END_OF_PROGRAM)
-        | put(r.valid_pixel_mode, fields::VALID_PIXEL_MODE)
-        | put(r.cf_inst, fields::CF_INST)
-        | put(r.whole_quad_mode, fields::WHOLE_QUAD_MODE)
-        | put(r.barrier, fields::BARRIER)
-}
+    fn write(self) -> u32 {
+        let count = self.count;
+        bits::put(self.pop_count, fields::POP_COUNT)
+            | bits::put(self.cf_const, fields::CF_CONST)
+            | bits::put(self.cond, fields::COND)
+            | bits::put(low_half(low_count(count)), fields::COUNT)
+            | bits::put(self.call_count, fields::CALL_COUNT)
+            | bits::put(low_half(top_count(count)), fields::COUNT_3)
+            | bits::put(self.rest, fields::BIT_20)
+            | bits::put(self.end_of_program, fields::END_OF_PROGRAM)
+            | bits::put(self.valid_pixel_mode, fields::VALID_PIXEL_MODE)
+            | bits::put(self.cf_inst, fields::CF_INST)
+            | bits::put(self.whole_quad_mode, fields::WHOLE_QUAD_MODE)
+            | bits::put(self.barrier, fields::BARRIER)
+    }
 
-// Whether each field is within its width.
-pub fn word1_fits(r: CfWord1) -> bool
-    ensures { result ≡ fits_table format.word1_table (format.word1_values r) }
-{
-    let count = r.count;
-    fits(r.pop_count, fields::POP_COUNT)
-        & fits(r.cf_const, fields::CF_CONST)
-        & fits(r.cond, fields::COND)
-        & count_fits(low_count(count), fields::COUNT)
-        & fits(r.call_count, fields::CALL_COUNT)
-        & count_fits(top_count(count), fields::COUNT_3)
-        & fits(r.rest, fields::BIT_20)
-        & fits(r.end_of_program, fields::END_OF_PROGRAM)
-        & fits(r.valid_pixel_mode, fields::VALID_PIXEL_MODE)
-        & fits(r.cf_inst, fields::CF_INST)
-        & fits(r.whole_quad_mode, fields::WHOLE_QUAD_MODE)
-        & fits(r.barrier, fields::BARRIER)
+    fn fits(self) -> bool {
+        let count = self.count;
+        bits::fits(self.pop_count, fields::POP_COUNT)
+            & bits::fits(self.cf_const, fields::CF_CONST)
+            & bits::fits(self.cond, fields::COND)
+            & count_fits(low_count(count), fields::COUNT)
+            & bits::fits(self.call_count, fields::CALL_COUNT)
+            & count_fits(top_count(count), fields::COUNT_3)
+            & bits::fits(self.rest, fields::BIT_20)
+            & bits::fits(self.end_of_program, fields::END_OF_PROGRAM)
+            & bits::fits(self.valid_pixel_mode, fields::VALID_PIXEL_MODE)
+            & bits::fits(self.cf_inst, fields::CF_INST)
+            & bits::fits(self.whole_quad_mode, fields::WHOLE_QUAD_MODE)
+            & bits::fits(self.barrier, fields::BARRIER)
+    }
+
+    ghost laws = { format.word1_laws };
 }

@@ -1,10 +1,7 @@
 // Exports: CF_ALLOC_EXPORT_WORD0 and CF_ALLOC_EXPORT_WORD1_SWIZ.
-ghost use Rattle.std.specs.Prelude.{◌≡◌};
-ghost use Rattle.bits.specs.Tables.{word_of, fits_table};
 ghost use Rattle.formats.specs.Export as format;
 
-use crate::fields;
-use bits::{fits, put, read};
+use crate::{Format, fields};
 
 // CF_ALLOC_EXPORT_WORD0.
 #[derive(Clone, Copy)]
@@ -18,41 +15,43 @@ pub struct CfAllocExportWord0 {
     pub elem_size: u32,
 }
 
-pub fn read_word0(w: u32) -> CfAllocExportWord0
-    ensures { result ≡ format.word0_of w }
-{
-    CfAllocExportWord0 {
-        array_base: read(w, fields::ARRAY_BASE),
-        export_type: read(w, fields::TYPE),
-        rw_gpr: read(w, fields::RW_GPR),
-        rw_rel: read(w, fields::RW_REL),
-        index_gpr: read(w, fields::INDEX_GPR),
-        elem_size: read(w, fields::ELEM_SIZE),
+impl Format for CfAllocExportWord0 {
+    ghost table = { format.word0_table };
+
+    ghost values = { format.word0_values };
+
+    ghost of_word = { format.word0_of };
+
+    fn read(word: u32) -> CfAllocExportWord0 {
+        CfAllocExportWord0 {
+            array_base: bits::read(word, fields::ARRAY_BASE),
+            export_type: bits::read(word, fields::TYPE),
+            rw_gpr: bits::read(word, fields::RW_GPR),
+            rw_rel: bits::read(word, fields::RW_REL),
+            index_gpr: bits::read(word, fields::INDEX_GPR),
+            elem_size: bits::read(word, fields::ELEM_SIZE),
+        }
     }
-}
 
-// The word of a record, each field cut to its width.
-pub fn write_word0(r: CfAllocExportWord0) -> u32
-    ensures { result ≡ word_of format.word0_table (format.word0_values r) }
-{
-    put(r.array_base, fields::ARRAY_BASE)
-        | put(r.export_type, fields::TYPE)
-        | put(r.rw_gpr, fields::RW_GPR)
-        | put(r.rw_rel, fields::RW_REL)
-        | put(r.index_gpr, fields::INDEX_GPR)
-        | put(r.elem_size, fields::ELEM_SIZE)
-}
+    fn write(self) -> u32 {
+        bits::put(self.array_base, fields::ARRAY_BASE)
+            | bits::put(self.export_type, fields::TYPE)
+            | bits::put(self.rw_gpr, fields::RW_GPR)
+            | bits::put(self.rw_rel, fields::RW_REL)
+            | bits::put(self.index_gpr, fields::INDEX_GPR)
+            | bits::put(self.elem_size, fields::ELEM_SIZE)
+    }
 
-// Whether each field is within its width.
-pub fn word0_fits(r: CfAllocExportWord0) -> bool
-    ensures { result ≡ fits_table format.word0_table (format.word0_values r) }
-{
-    fits(r.array_base, fields::ARRAY_BASE)
-        & fits(r.export_type, fields::TYPE)
-        & fits(r.rw_gpr, fields::RW_GPR)
-        & fits(r.rw_rel, fields::RW_REL)
-        & fits(r.index_gpr, fields::INDEX_GPR)
-        & fits(r.elem_size, fields::ELEM_SIZE)
+    fn fits(self) -> bool {
+        bits::fits(self.array_base, fields::ARRAY_BASE)
+            & bits::fits(self.export_type, fields::TYPE)
+            & bits::fits(self.rw_gpr, fields::RW_GPR)
+            & bits::fits(self.rw_rel, fields::RW_REL)
+            & bits::fits(self.index_gpr, fields::INDEX_GPR)
+            & bits::fits(self.elem_size, fields::ELEM_SIZE)
+    }
+
+    ghost laws = { format.word0_laws };
 }
 
 // CF_ALLOC_EXPORT_WORD1_SWIZ.
@@ -72,54 +71,56 @@ pub struct CfAllocExportWord1Swiz {
     pub barrier: u32,
 }
 
-pub fn read_word1(w: u32) -> CfAllocExportWord1Swiz
-    ensures { result ≡ format.word1_of w }
-{
-    CfAllocExportWord1Swiz {
-        sel_x: read(w, fields::SEL_X),
-        sel_y: read(w, fields::SEL_Y),
-        sel_z: read(w, fields::SEL_Z),
-        sel_w: read(w, fields::SEL_W),
-        rest: read(w, fields::BITS_16_12),
-        burst_count: read(w, fields::BURST_COUNT),
-        end_of_program: read(w, fields::END_OF_PROGRAM),
-        valid_pixel_mode: read(w, fields::VALID_PIXEL_MODE),
-        cf_inst: read(w, fields::CF_INST),
-        whole_quad_mode: read(w, fields::WHOLE_QUAD_MODE),
-        barrier: read(w, fields::BARRIER),
+impl Format for CfAllocExportWord1Swiz {
+    ghost table = { format.word1_table };
+
+    ghost values = { format.word1_values };
+
+    ghost of_word = { format.word1_of };
+
+    fn read(word: u32) -> CfAllocExportWord1Swiz {
+        CfAllocExportWord1Swiz {
+            sel_x: bits::read(word, fields::SEL_X),
+            sel_y: bits::read(word, fields::SEL_Y),
+            sel_z: bits::read(word, fields::SEL_Z),
+            sel_w: bits::read(word, fields::SEL_W),
+            rest: bits::read(word, fields::BITS_16_12),
+            burst_count: bits::read(word, fields::BURST_COUNT),
+            end_of_program: bits::read(word, fields::END_OF_PROGRAM),
+            valid_pixel_mode: bits::read(word, fields::VALID_PIXEL_MODE),
+            cf_inst: bits::read(word, fields::CF_INST),
+            whole_quad_mode: bits::read(word, fields::WHOLE_QUAD_MODE),
+            barrier: bits::read(word, fields::BARRIER),
+        }
     }
-}
 
-// The word of a record, each field cut to its width.
-pub fn write_word1(r: CfAllocExportWord1Swiz) -> u32
-    ensures { result ≡ word_of format.word1_table (format.word1_values r) }
-{
-    put(r.sel_x, fields::SEL_X)
-        | put(r.sel_y, fields::SEL_Y)
-        | put(r.sel_z, fields::SEL_Z)
-        | put(r.sel_w, fields::SEL_W)
-        | put(r.rest, fields::BITS_16_12)
-        | put(r.burst_count, fields::BURST_COUNT)
-        | put(r.end_of_program, fields::END_OF_PROGRAM)
-        | put(r.valid_pixel_mode, fields::VALID_PIXEL_MODE)
-        | put(r.cf_inst, fields::CF_INST)
-        | put(r.whole_quad_mode, fields::WHOLE_QUAD_MODE)
-        | put(r.barrier, fields::BARRIER)
-}
+    fn write(self) -> u32 {
+        bits::put(self.sel_x, fields::SEL_X)
+            | bits::put(self.sel_y, fields::SEL_Y)
+            | bits::put(self.sel_z, fields::SEL_Z)
+            | bits::put(self.sel_w, fields::SEL_W)
+            | bits::put(self.rest, fields::BITS_16_12)
+            | bits::put(self.burst_count, fields::BURST_COUNT)
+            | bits::put(self.end_of_program, fields::END_OF_PROGRAM)
+            | bits::put(self.valid_pixel_mode, fields::VALID_PIXEL_MODE)
+            | bits::put(self.cf_inst, fields::CF_INST)
+            | bits::put(self.whole_quad_mode, fields::WHOLE_QUAD_MODE)
+            | bits::put(self.barrier, fields::BARRIER)
+    }
 
-// Whether each field is within its width.
-pub fn word1_fits(r: CfAllocExportWord1Swiz) -> bool
-    ensures { result ≡ fits_table format.word1_table (format.word1_values r) }
-{
-    fits(r.sel_x, fields::SEL_X)
-        & fits(r.sel_y, fields::SEL_Y)
-        & fits(r.sel_z, fields::SEL_Z)
-        & fits(r.sel_w, fields::SEL_W)
-        & fits(r.rest, fields::BITS_16_12)
-        & fits(r.burst_count, fields::BURST_COUNT)
-        & fits(r.end_of_program, fields::END_OF_PROGRAM)
-        & fits(r.valid_pixel_mode, fields::VALID_PIXEL_MODE)
-        & fits(r.cf_inst, fields::CF_INST)
-        & fits(r.whole_quad_mode, fields::WHOLE_QUAD_MODE)
-        & fits(r.barrier, fields::BARRIER)
+    fn fits(self) -> bool {
+        bits::fits(self.sel_x, fields::SEL_X)
+            & bits::fits(self.sel_y, fields::SEL_Y)
+            & bits::fits(self.sel_z, fields::SEL_Z)
+            & bits::fits(self.sel_w, fields::SEL_W)
+            & bits::fits(self.rest, fields::BITS_16_12)
+            & bits::fits(self.burst_count, fields::BURST_COUNT)
+            & bits::fits(self.end_of_program, fields::END_OF_PROGRAM)
+            & bits::fits(self.valid_pixel_mode, fields::VALID_PIXEL_MODE)
+            & bits::fits(self.cf_inst, fields::CF_INST)
+            & bits::fits(self.whole_quad_mode, fields::WHOLE_QUAD_MODE)
+            & bits::fits(self.barrier, fields::BARRIER)
+    }
+
+    ghost laws = { format.word1_laws };
 }

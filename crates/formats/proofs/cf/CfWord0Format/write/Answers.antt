@@ -1,0 +1,15 @@
+-- `formats::cf::CfWord0::write` meets its contract: joining the placed fields packs them. Assumes nothing.
+use Prim.Native.Nat.{ℕ}
+use mathlib.Core.Path.{refl, ap, ◌∙◌}
+use Rattle.bits.specs.Tables.{place_of}
+use Rattle.formats.proofs.Places.{place_cut}
+use Rattle.bits.proofs.OfTables.{joined_word}
+use Rattle.formats.specs.Cf.{word0_table, word0_values}
+use Rattle.formats.proofs.cf.CfWord0Format.write.Goals as goal
+
+pub returns : goal.returns
+unfolding word0_table
+returns c =
+    let r = c.args.self in
+    (λ i. (c.put.ensures ∙ ap (λ (n : ℕ). place_of n 0 32) c.low_half.ensures ∙ place_cut r.addr.0 0 32 0 refl) i)
+    ∙ joined_word word0_table refl (word0_values r)
