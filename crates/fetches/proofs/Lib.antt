@@ -1,4 +1,3 @@
 -- The laws that proofs cite, here and in the crates above.
-pub mod OfFetches
 pub mod OfClause
 pub mod Examples

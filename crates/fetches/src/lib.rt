@@ -1,7 +1,7 @@
 // Rules 8 and 9 on a fetch clause: document 01, the paragraph on fetches in "Control-flow words".
 #![tactic(auto)]
 
-ghost use Rattle.std.specs.Prelude.{◌≡◌};
+ghost use Rattle.std.specs.Prelude.{◌≡◌, ◌+◌, ◌*◌, ◌<◌, length};
 ghost use Rattle.checks.specs.Checks.{first_broken};
 ghost use Rattle.grants.specs.Grants.{all_granted};
 ghost use Rattle.fetches.specs.Fetches.{is_semantic, destination, source, named, bad_fetch, clause_checks};
@@ -31,9 +31,8 @@ pub fn fetch_clause(
     }
     for i in 0..fetches.0 {
         let slot = units::fetch_slot(Slots(i));
-        let at = units::low_word(units::slot_quadword(start, slot)).0;
-        let broken = broken_rule(kind, limits, words[at], words[at + 1], words[at + 3]);
-        if let Some(rule) = broken {
+        let fetch = units::slot_quadword(start, slot);
+        if let Some(rule) = broken_rule(kind, limits, words, fetch) {
             return Err(Refusal {
                 rule,
                 place: Place::Quadword(place),
@@ -44,15 +43,18 @@ pub fn fetch_clause(
     Ok(())
 }
 
-// The first of rules 8 and 9 that a fetch breaks, by its first, second and fourth word.
-fn broken_rule(kind: FetchKind, limits: Limits, word0: u32, word1: u32, word3: u32) -> Option<u8>
-    ensures { result ≡ broken_rule kind limits word0 word1 word3 }
+// The first of rules 8 and 9 that a fetch breaks, by its first quadword.
+#[tactic(auto, unfolding(units::specs::Units::low_at, units::specs::Units::high_at))]
+fn broken_rule(kind: FetchKind, limits: Limits, words: &[u32], fetch: Quadwords) -> Option<u8>
+    requires { 2 * fetch.0 + 3 < length words.now }
+    ensures { result ≡ broken_rule kind limits words.now fetch }
 {
-    let number = read(word0, fields::FETCH_INST);
-    if is_bad(kind, number, word3) {
+    let at = units::low_word(fetch).0;
+    let number = read(words[at], fields::FETCH_INST);
+    if is_bad(kind, number, words[at + 3]) {
         return Some(8);
     }
-    if !registers_granted(kind, number, limits, word0, word1) {
+    if !registers_granted(kind, number, limits, words[at], words[at + 1]) {
         return Some(9);
     }
     None
