@@ -1,13 +1,13 @@
 // The class of each OP2 and OP3 number: where it may run, what counts against its group, how many sources it reads. The rows are in
 // src/table.rt.
 ghost use Rattle.std.specs.Prelude.{◌≡◌, ◌<◌};
-ghost use Rattle.opcodes.specs.Alu.{op2_class, op3_class, unit_number, issue_number, is_unit, is_issue, is_taken};
+ghost use Rattle.opcodes.specs.Alu.{op2_class, op3_class, is_taken};
 ghost use Rattle.opcodes.specs.Code.{code_of, class_numbered, place_of, class_placed, class_in, unit_numbered, issue_numbered};
 
 use crate::table;
 
 // The unit class: any unit, one of the four vector units, or Trans.
-#[derive(Clone, Copy)]
+#[derive(Clone, Copy, Debug, PartialEq, Eq)]
 pub enum Unit {
     NotTaken,
     Any,
@@ -16,7 +16,7 @@ pub enum Unit {
 }
 
 // The issue kind, by which rule 14 counts.
-#[derive(Clone, Copy)]
+#[derive(Clone, Copy, Debug, PartialEq, Eq)]
 pub enum Issue {
     Plain,
     Predicate,
@@ -25,7 +25,7 @@ pub enum Issue {
     Reduction,
 }
 
-#[derive(Clone, Copy)]
+#[derive(Clone, Copy, Debug, PartialEq, Eq)]
 pub struct Class {
     pub unit: Unit,
     pub issue: Issue,
@@ -124,47 +124,9 @@ fn issue_numbered(n: u8) -> Issue
     }
 }
 
-// A number for each unit class, and for each issue kind.
-fn unit_number(unit: Unit) -> u8
-    ensures { result ≡ unit_number unit }
-{
-    match unit {
-        Unit::NotTaken => table::NOT_TAKEN,
-        Unit::Any => table::ANY,
-        Unit::Vector => table::VECTOR,
-        Unit::Trans => table::TRANS,
-    }
-}
-
-fn issue_number(issue: Issue) -> u8
-    ensures { result ≡ issue_number issue }
-{
-    match issue {
-        Issue::Plain => table::PLAIN,
-        Issue::Predicate => table::PREDICATE,
-        Issue::Kill => table::KILL,
-        Issue::Mova => table::MOVA,
-        Issue::Reduction => table::REDUCTION,
-    }
-}
-
-// Whether two unit classes are the same, and two issue kinds.
-pub fn is_unit(a: Unit, b: Unit) -> bool
-    ensures { result ≡ is_unit a b }
-{
-    unit_number(a) == unit_number(b)
-}
-
-pub fn is_issue(a: Issue, b: Issue) -> bool
-    ensures { result ≡ is_issue a b }
-{
-    issue_number(a) == issue_number(b)
-}
-
 // Whether the number of a class is taken.
 pub fn is_taken(class: Class) -> bool
     ensures { result ≡ is_taken class }
 {
-    let unit = class.unit;
-    !is_unit(unit, Unit::NotTaken)
+    class.unit != Unit::NotTaken
 }

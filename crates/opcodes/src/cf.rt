@@ -3,14 +3,14 @@ ghost use Rattle.std.specs.Prelude.{◌≡◌, ◌<◌, ◌≤◌, ◌-◌};
 ghost use Rattle.opcodes.specs.Numbers as numbers;
 
 // What a fetch clause holds: VTX and VTX_TC open vertex fetches, TEX texture fetches.
-#[derive(Clone, Copy)]
+#[derive(Clone, Copy, Debug, PartialEq, Eq)]
 pub enum FetchKind {
     Vertex,
     Texture,
 }
 
 // Pairs that go to ADDR. LOOP_BREAK and LOOP_CONTINUE do the same: both go to a LOOP_END.
-#[derive(Clone, Copy)]
+#[derive(Clone, Copy, Debug, PartialEq, Eq)]
 pub enum Branch {
     LoopEnd,
     LoopStart,
@@ -20,7 +20,7 @@ pub enum Branch {
     Pop,
 }
 
-#[derive(Clone, Copy)]
+#[derive(Clone, Copy, Debug, PartialEq, Eq)]
 pub enum Control {
     NotTaken,
     Nop,
@@ -104,25 +104,11 @@ fn high_control(number: u32) -> Control
 pub fn is_taken(control: Control) -> bool
     ensures { result ≡ numbers.is_taken control }
 {
-    match control {
-        Control::NotTaken => false,
-        Control::Nop => true,
-        Control::Fetch(_) => true,
-        Control::Branch(_) => true,
-        Control::Export => true,
-        Control::Alu { pushes: _, pops: _ } => true,
-    }
+    !matches!(control, Control::NotTaken)
 }
 
 pub fn is_export(control: Control) -> bool
     ensures { result ≡ numbers.is_export control }
 {
-    match control {
-        Control::NotTaken => false,
-        Control::Nop => false,
-        Control::Fetch(_) => false,
-        Control::Branch(_) => false,
-        Control::Export => true,
-        Control::Alu { pushes: _, pops: _ } => false,
-    }
+    matches!(control, Control::Export)
 }
