@@ -9,38 +9,26 @@ use native.Mathlib.Nat.{eq-or-lt_of_le}
 use native.Mathlib.Numerals.{add-one}
 use native.Mathlib.Omega.{arith}
 use lib.ListN.{length, get_or}
-use borrow.Author.Tests.{leb-false, ltb-true}
+use borrow.Author.Tests.{leb-false}
 use Rattle.units.specs.declared.Quadwords.{Quadwords}
 use Rattle.units.specs.declared.Words.{Words}
-use Rattle.units.specs.Units.{quadwords, high_word, high_at, quadword_behind, is_below}
-use Rattle.units.specs.Code.{capped, words_in_64, quadwords_in_64}
-use Rattle.units.proofs.OfUnits.{behind_exact}
+use Rattle.units.specs.Units.{quadwords, high_word, high_at}
+use Rattle.units.specs.Code.{capped, words_in_64}
 use Rattle.section.specs.Control.{is_end, searched, end_from, end_of}
 use Rattle.section.specs.Rules.{no_end}
 
 -- ---- the search, pair by pair
 
--- one of the pairs searched: its high word lies in the buffer, and no count here comes near the cap
-pub record Searched (w : List ℕ) (q p : Quadwords) : Type 0 where
-  pub below : p.0 < q.0
-  pub most : q.0 ≤ 512
-  pub inside : 2 * p.0 + 1 < length w
+-- the high word that the code reads of a pair that is searched: no count here comes near the cap
+pub high_read : (w : List ℕ) (q : Quadwords) (p : ℕ) (at : Words) → q ≡ quadwords (searched w) → p < q.0 → at ≡ words_in_64 (high_word (quadwords p)) → get_or w at.0 0 ≡ high_at w p
+unfolding high_at
+high_read w q p at e h f =
+    let n : q.0 ≡ searched w = ap (λ (x : Quadwords). x.0) e in
+    let a : at.0 ≡ capped (2 * p + 1) = ap (λ (x : Words). x.0) f in
+    let same : at.0 ≡ 2 * p + 1 = omega arith in
+    ap (λ (k : ℕ). get_or w k 0) same
 
-pub is_searched : (w : List ℕ) (q p : Quadwords) (t : Bool) → q ≡ quadwords (searched w) → t ≡ is_below p q → t ≡ true → Searched w q p
-is_searched w q p t e f h =
-    let a : q.0 ≡ searched w = ap (λ (x : Quadwords). x.0) e in
-    let b : p.0 < q.0 = ltb-true p.0 q.0 (sym f ∙ h) in
-    record { below = b; most = omega arith; inside = omega arith }
-
-module _ (w : List ℕ) (q p : Quadwords) (s : Searched w q p) where
-  pub high_word_of : (at : Words) → at ≡ words_in_64 (high_word p) → at.0 ≡ 2 * p.0 + 1
-  high_word_of at f =
-      let b : at.0 ≡ capped (2 * p.0 + 1) = ap (λ (x : Words). x.0) f in
-      omega (arith, s.below, s.most)
-
-  pub next_pair : (r : Quadwords) → r ≡ quadwords_in_64 (quadword_behind p) → r.0 ≡ p.0 + 1
-  next_pair r f = behind_exact p r f (omega (arith, s.below, s.most))
-
+-- from the first pair on it finds the end
 pub end_first : (w : List ℕ) (q : Quadwords) → q ≡ quadwords (searched w) → end_from w 0 (q.0 - 0) ≡ end_of w
 unfolding end_of
 end_first w q e =
@@ -48,31 +36,20 @@ end_first w q e =
     let b : q.0 - 0 ≡ searched w = omega arith in
     ap (end_from w 0) b
 
-module _ (w : List ℕ) (p n : ℕ) (i : end_from w p (n - p) ≡ end_of w) where
-  module _ (at : ℕ) (t : Bool) (h : p < n) (e : at ≡ 2 * p + 1) (f : t ≡ is_end (get_or w at 0)) where
-    one_more_lem : n - p ≡ suc (n - suc p)
-    one_more_lem = omega arith
+-- from p on it finds p, or what it finds from the next pair on
+pub end-step : (w : List ℕ) (p n : ℕ) (t : Bool) → p < n → is_end (high_at w p) ≡ t → end_from w p (n - p) ≡ cond t p (end_from w (p + 1) (n - (p + 1)))
+unfolding end_from
+end-step w p n t h e =
+    let one_more : n - p ≡ suc (n - (p + 1)) = omega arith in
+    rw (one_more, add-one p, e)
 
-    told : (b : Bool) → t ≡ b → is_end (high_at w p) ≡ b
-    unfolding high_at
-    told b g = ap (λ (k : ℕ). is_end (get_or w k 0)) (sym e) ∙ sym f ∙ g
-
-    pub end-found : t ≡ true → quadwords p ≡ quadwords (end_of w)
-    unfolding end_from
-    end-found g = ap quadwords (rw (told true g) at (rw one_more_lem at i))
-
-    pub end-next : (k : ℕ) → k ≡ p + 1 → t ≡ false → end_from w k (n - k) ≡ end_of w
-    unfolding end_from
-    end-next k z g =
-        let a : k ≡ suc p = z ∙ add-one p in
-        (λ j. end_from w (a j) (n - a j)) ∙ rw (told false g) at (rw one_more_lem at i)
-
-  pub end_none : p ≤ n → n ≤ p → quadwords n ≡ quadwords (end_of w)
-  unfolding end_from
-  end_none h k =
-      let a : n - p ≡ 0 = omega arith in
-      let b : n ≡ p = omega arith in
-      ap quadwords (b ∙ rw a at i)
+-- behind the last pair it finds none
+pub end_none : (w : List ℕ) (p n : ℕ) → p ≤ n → n ≤ p → end_from w p (n - p) ≡ n
+unfolding end_from
+end_none w p n h k =
+    let none : n - p ≡ 0 = omega arith in
+    let last : p ≡ n = omega arith in
+    rw none last
 
 -- ---- the end that was found
 

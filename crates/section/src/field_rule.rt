@@ -26,7 +26,9 @@ pub(crate) fn is_bad_still(high: u32) -> bool
 pub(crate) fn is_bad_branch(high: u32) -> bool
     ensures { result ≡ bad_branch high }
 {
-    read(high, fields::BIT_20) == 1 || has_both_modes(high) || read(high, fields::END_OF_PROGRAM) == 1
+    read(high, fields::BIT_20) == 1
+        || has_both_modes(high)
+        || read(high, fields::END_OF_PROGRAM) == 1
 }
 
 // Exports, whose bit 20 is BURST_COUNT's.
