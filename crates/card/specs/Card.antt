@@ -1,7 +1,6 @@
 -- The card of document 01, "What the judge reads": seven lines key=value, each ended by one line feed, in the order of its table.
-use Rattle.std.specs.Prelude.{ℕ, ◌+◌, Bool, ◌&&◌, List, [], ◌∷◌, ◌++◌, leb}
+use Rattle.std.specs.Prelude.{ℕ, ◌+◌, Bool, ◌&&◌, Option, Result, Ok, Err, ok_or, List, [], ◌∷◌, ◌++◌, leb}
 use Prim.Native.String.{String}
-use Rattle.std.proofs.Math.Option.{Option, none, some}
 use Rattle.units.specs.Units.{quadwords}
 use Rattle.card.specs.Text.{text, found, lines_length, value_at, word_in, number_in, from◌to◌}
 use Rattle.card.specs.declared.Kind.{Kind}
@@ -9,8 +8,7 @@ use Rattle.card.specs.declared.Kind.TheVariants.{Pixel, Vertex, Geometry}
 use Rattle.card.specs.declared.Build.{Build}
 use Rattle.card.specs.declared.Build.TheVariants.{Production, Debug}
 use Rattle.card.specs.declared.Card.{Card}
-use Rattle.card.specs.declared.CardRead.{CardRead}
-use Rattle.card.specs.declared.CardRead.TheVariants as read
+use Rattle.card.specs.declared.BadLine.{BadLine}
 
 -- ---- what each line allows: the table's last column, for a card that is read and for one that a caller makes
 
@@ -48,23 +46,32 @@ quads_allowed quads = (from 1 to 8192) quads
 abbrev pub line_says : {A : Type 0} → List ℕ → ℕ → String → (List ℕ → Option A) → Option A
 line_says s n key allowed = found (value_at n (text key ++ text "=") s) allowed
 
+-- the number of the first line that is missing, misspelt or out of range
+abbrev pub bad_line : ℕ → BadLine
+bad_line n = record { 0 = n }
+
+-- what bytes are read as: a card, with the bytes that it takes; or which line is at fault
+abbrev pub CardRead : Type 0
+CardRead = Result (Card × ℕ) BadLine
+
+pattern abbrev pub Whole : Card → ℕ → CardRead
+Whole card taken = Ok (card, taken)
+
+abbrev pub BadAt : {A : Type 0} → ℕ → Result A BadLine
+BadAt n = Err (bad_line n)
+
 -- a line that is exactly right, with its value; or the number of one that isn't
-pub data Line (A : Type 0) : Type 0 where
-  right : A → Line A
-  wrong : ℕ → Line A
+abbrev pub judged : {A : Type 0} → ℕ → Option A → Result A BadLine
+judged n said = ok_or said (bad_line n)
 
-abbrev pub judged : {A : Type 0} → ℕ → Option A → Line A
-judged n none = wrong n
-judged n (some value) = right value
-
-abbrev pub line : {A : Type 0} → List ℕ → ℕ → String → (List ℕ → Option A) → Line A
+abbrev pub line : {A : Type 0} → List ℕ → ℕ → String → (List ℕ → Option A) → Result A BadLine
 line s n key allowed = judged n (line_says s n key allowed)
 
 -- a line that is right hands its value to the lines behind; one that is wrong is the answer, whatever they are
 infixl 30 ◌>>=◌
-abbrev pub ◌>>=◌ : {A : Type 0} → Line A → (A → CardRead) → CardRead
-◌>>=◌ (right value) behind = behind value
-◌>>=◌ (wrong n) behind = read.BadLine n
+abbrev pub ◌>>=◌ : {A : Type 0} → Result A BadLine → (A → CardRead) → CardRead
+◌>>=◌ (Ok value) behind = behind value
+◌>>=◌ (Err bad) behind = Err bad
 
 -- the card that seven values make
 abbrev pub card_with : Kind → Build → ℕ → ℕ → ℕ → ℕ → ℕ → Card
@@ -86,7 +93,7 @@ card_of s = do
   consts ← line s 5 "consts" (number_in consts_allowed)
   stack ← line s 6 "stack" (number_in stack_allowed)
   quads ← line s 7 "quads" (number_in quads_allowed)
-  read.Whole (card_with kind build gprs temps consts stack quads) (lines_length card_lines s)
+  Whole (card_with kind build gprs temps consts stack quads) (lines_length card_lines s)
 
 -- ---- a card by value
 

@@ -1,14 +1,20 @@
 -- A card that a caller makes: whether its figures are in range, and which line is the first whose figure isn't.
-use Rattle.std.specs.Prelude.{ℕ, ◌+◌, ◌≤◌, Bool, cond, List, [], ◌∷◌}
-use Rattle.card.specs.Card.{figure_tests}
+use Rattle.std.specs.Prelude.{ℕ, ◌+◌, ◌≤◌, Bool, cond, Result, Ok, List, [], ◌∷◌, ⊤}
+use Rattle.card.specs.Card.{BadAt, figure_tests}
 use Rattle.card.specs.declared.Card.{Card}
-use Rattle.card.specs.declared.CardTest.{CardTest}
-use Rattle.card.specs.declared.CardTest.TheVariants.{InRange, BadLine}
+use Rattle.card.specs.declared.BadLine.{BadLine}
+
+-- the code's type for the answer: in range, or the first line that isn't
+abbrev pub CardTest : Type 0
+CardTest = Result ⊤ BadLine
+
+pattern abbrev pub InRange : CardTest
+InRange = Ok (record {})
 
 -- the first line whose test fails
 abbrev pub first_not : List (ℕ × Bool) → CardTest
 first_not [] = InRange
-first_not (t ∷ ts) = cond t.1 (first_not ts) (BadLine t.0)
+first_not (t ∷ ts) = cond t.1 (first_not ts) (BadAt t.0)
 
 -- the card held to the table's limits
 unfoldable pub test_of : Card → CardTest

@@ -1,26 +1,23 @@
 -- Texts as bytes: lines, keys, words and decimal numbers, as document 01 writes the card with them. Nothing here knows the card. The
 -- bytes of a quoted text, and what digits stand for, are ascii's.
-use Rattle.std.specs.Prelude.{ℕ, zero, suc, pred, ◌-◌, Bool, true, false, cond, not, ◌&&◌, List, [], ◌∷◌, eqb, leb, length, drop}
+use Rattle.std.specs.Prelude.{ℕ, zero, suc, pred, ◌-◌, Bool, true, false, cond, not, ◌&&◌, Option, Some, None, option_map, List, [], ◌∷◌, eqb, leb, length, drop}
 use Prim.Native.Char.{code}
 use Prim.Native.String.{String}
-use Rattle.std.proofs.Math.Option.{Option, none, some, map}
 pub use Rattle.ascii.specs.Ascii.{ascii as text, line_feed}
 pub use Rattle.ascii.specs.Decimal.{is_digit}
 unfoldable pub use Rattle.ascii.specs.Decimal.{all_digits, digits_value}
-use Rattle.card.specs.declared.Number.{Number}
-use Rattle.card.specs.declared.Number.TheVariants.{Is, Wrong}
 
 -- what is found is handed on; nothing found is nothing found
 abbrev pub found : {A B : Type 0} → Option A → (A → Option B) → Option B
-found none f = none
-found (some a) f = f a
+found None f = None
+found (Some a) f = f a
 
 -- ---- lines
 
 -- the bytes before the first line feed; none where there is no line feed
 unfoldable pub first_line : List ℕ → Option (List ℕ)
-first_line [] = none
-first_line (b ∷ s) = cond (eqb b line_feed) (some []) (map (λ l. b ∷ l) (first_line s))
+first_line [] = None
+first_line (b ∷ s) = cond (eqb b line_feed) (Some []) (option_map (λ l. b ∷ l) (first_line s))
 
 -- how many bytes stand before the first line feed; all where there is none
 unfoldable pub line_end : List ℕ → ℕ
@@ -62,7 +59,7 @@ same_as (x ∷ xs) (y ∷ ys) = eqb x y && same_as xs ys
 
 -- the value of a line key=value; none where the line doesn't begin so
 unfoldable pub value_of : List ℕ → List ℕ → Option (List ℕ)
-value_of key l = cond (begins_with key l) (some (drop (length key) l)) none
+value_of key l = cond (begins_with key l) (Some (drop (length key) l)) None
 
 -- the value of line n
 unfoldable pub value_at : ℕ → List ℕ → List ℕ → Option (List ℕ)
@@ -70,8 +67,8 @@ value_at n key s = found (line_of n s) (value_of key)
 
 -- what a word stands for, in a list of words
 unfoldable pub word_in : {A : Type 0} → List (String × A) → List ℕ → Option A
-word_in [] t = none
-word_in (w ∷ ws) t = cond (same_as t (text w.0)) (some w.1) (word_in ws t)
+word_in [] t = None
+word_in (w ∷ ws) t = cond (same_as t (text w.0)) (Some w.1) (word_in ws t)
 
 -- ---- decimal numbers
 
@@ -83,7 +80,7 @@ is_decimal (b ∷ c ∷ t) = not (eqb b (code "0")) && all_digits (b ∷ c ∷ t
 
 -- the number that a text is; none where it is not one
 unfoldable pub number_of : List ℕ → Option ℕ
-number_of t = cond (is_decimal t) (some (digits_value t)) none
+number_of t = cond (is_decimal t) (Some (digits_value t)) None
 
 -- n is from low to high
 infix 40 from◌to◌
@@ -92,13 +89,8 @@ from◌to◌ low high n = leb low n && leb n high
 
 -- the number that a text is, where the number is an allowed one
 unfoldable pub number_in : (ℕ → Bool) → List ℕ → Option ℕ
-number_in allowed t = found (number_of t) (λ n. cond (allowed n) (some n) none)
+number_in allowed t = found (number_of t) (λ n. cond (allowed n) (Some n) None)
 
 -- any number of 32 bits
 abbrev pub of_32_bits : ℕ → Bool
 of_32_bits = from 0 to 4294967295
-
--- the answer of `read_number`, an enum of the code for an Option
-abbrev pub number_read : Option ℕ → Number
-number_read none = Wrong
-number_read (some n) = Is n

@@ -1,41 +1,99 @@
 // The card of document 01: what a pack may use, as seven lines of text, as a `Card`, and which line is at fault.
 //
-// The table of its lines stands once in each layer: as a definition in specs/Card.antt, as functions in lines.rt, with the limits in
-// limits.rt. A line more is a row more in each.
+// The table of its lines stands once in each layer: as a definition in specs/Card.antt, in `read_card`, with the limits in limits.rt. A
+// line more is a row more in each.
 //
-// The keys and numbers of other texts NAME=number are read by the same functions: `begins_with` and `read_number`.
+// The numbers of other texts NAME=number are read by the same function: `read_number`.
 #![tactic(auto)]
 
-ghost use Rattle.std.specs.Prelude.{◌≡◌};
-ghost use Rattle.card.specs.Card.{card_of};
+ghost use Rattle.std.specs.Prelude.{◌≡◌, Some};
+ghost use Rattle.card.specs.Card.{kinds, builds, card_of};
+ghost use Rattle.card.specs.Text.{text, word_in};
+ghost use Rattle.card.specs.Written.{kind_word, build_word};
 ghost use Rattle.card.specs.Made.{test_of};
 
 mod limits;
 mod lines;
-mod text;
+mod number;
 
-use lines::{BuildRead, KindRead};
-use text::Figure;
-pub use text::{begins_with, read_number};
+pub use number::read_number;
+use std::fmt;
 use units::Quadwords;
 
 // The paper's kind: ps, vs, gs.
-#[derive(Clone, Copy)]
+#[derive(Clone, Copy, Debug, PartialEq, Eq)]
 pub enum Kind {
     Pixel,
     Vertex,
     Geometry,
 }
 
+impl Kind {
+    // Its word in the card's line.
+    pub fn word(self) -> &'static str
+        ensures { result.now ≡ text (kind_word self) }
+    {
+        match self {
+            Kind::Pixel => "ps",
+            Kind::Vertex => "vs",
+            Kind::Geometry => "gs",
+        }
+    }
+
+    fn of_word(word: &[u8]) -> Option<Kind>
+        ensures { result ≡ word_in kinds word.now }
+    {
+        [Kind::Pixel, Kind::Vertex, Kind::Geometry]
+            .into_iter()
+            .find(|kind| kind.word().as_bytes() == word)
+    }
+}
+
+impl fmt::Display for Kind {
+    ghost output = { λ x. Some (text (kind_word x)) };
+
+    fn fmt<W: fmt::Write>(&self, f: &mut fmt::Formatter<W>) -> fmt::Result {
+        f.write_str(self.word())
+    }
+}
+
 // The paper's build. Only a production pack is released.
-#[derive(Clone, Copy)]
+#[derive(Clone, Copy, Debug, PartialEq, Eq)]
 pub enum Build {
     Production,
     Debug,
 }
 
+impl Build {
+    // Its word in the card's line.
+    pub fn word(self) -> &'static str
+        ensures { result.now ≡ text (build_word self) }
+    {
+        match self {
+            Build::Production => "production",
+            Build::Debug => "debug",
+        }
+    }
+
+    fn of_word(word: &[u8]) -> Option<Build>
+        ensures { result ≡ word_in builds word.now }
+    {
+        [Build::Production, Build::Debug]
+            .into_iter()
+            .find(|build| build.word().as_bytes() == word)
+    }
+}
+
+impl fmt::Display for Build {
+    ghost output = { λ x. Some (text (build_word x)) };
+
+    fn fmt<W: fmt::Write>(&self, f: &mut fmt::Formatter<W>) -> fmt::Result {
+        f.write_str(self.word())
+    }
+}
+
 // The paper's card, a field for each line. Any figures can be put into one: `check_card` tells whether they are in range.
-#[derive(Clone, Copy)]
+#[derive(Clone, Copy, Debug, PartialEq, Eq)]
 pub struct Card {
     pub kind: Kind,
     pub build: Build,
@@ -51,56 +109,30 @@ pub struct Card {
     pub quads: Quadwords,
 }
 
-// A card and the bytes that it takes, so that the pack starts there; or the number of the first line, counted from 1, that is
-// missing, misspelt or out of range.
-#[derive(Clone, Copy)]
-pub enum CardRead {
-    Whole(Card, usize),
-    BadLine(usize),
-}
-
-// The number of the first line that is out of range, if one is.
-#[derive(Clone, Copy)]
-pub enum CardTest {
-    InRange,
-    BadLine(usize),
-}
-
-// A number of 32 bits, or that a text is none.
-#[derive(Clone, Copy)]
-pub enum Number {
-    Is(u32),
-    Wrong,
-}
+// The number of the first line, counted from 1, that is missing, misspelt or out of range.
+#[derive(Clone, Copy, Debug, PartialEq, Eq)]
+pub struct BadLine(pub usize);
 
 // How many lines a card has.
 pub const LINES: usize = 7;
 
-// Reads the card that `bytes` begin with. Any bytes are answered; what stands behind line 7 is not looked at.
-pub fn read_card(bytes: &[u8]) -> CardRead
+// Reads the card that `bytes` begin with, and answers how many bytes it takes, so that the pack starts there. Any bytes are answered;
+// what stands behind line 7 is not looked at.
+pub fn read_card(bytes: &[u8]) -> Result<(Card, usize), BadLine>
     ensures { result ≡ card_of bytes.now }
 {
-    let KindRead::Is(kind, build_at) = lines::kind_line(bytes, 0) else {
-        return CardRead::BadLine(1);
-    };
-    let BuildRead::Is(build, gprs_at) = lines::build_line(bytes, build_at) else {
-        return CardRead::BadLine(2);
-    };
-    let Figure::Is(gprs, temps_at) = lines::gprs_line(bytes, gprs_at) else {
-        return CardRead::BadLine(3);
-    };
-    let Figure::Is(temps, consts_at) = lines::temps_line(bytes, temps_at, gprs) else {
-        return CardRead::BadLine(4);
-    };
-    let Figure::Is(consts, stack_at) = lines::consts_line(bytes, consts_at) else {
-        return CardRead::BadLine(5);
-    };
-    let Figure::Is(stack, quads_at) = lines::stack_line(bytes, stack_at) else {
-        return CardRead::BadLine(6);
-    };
-    let Figure::Is(quads, taken) = lines::quads_line(bytes, quads_at) else {
-        return CardRead::BadLine(7);
-    };
+    let (word, rest) = lines::value(bytes, 1, b"kind=")?;
+    let kind = Kind::of_word(word).ok_or(BadLine(1))?;
+    let (word, rest) = lines::value(rest, 2, b"build=")?;
+    let build = Build::of_word(word).ok_or(BadLine(2))?;
+    let (gprs, rest) = lines::number(rest, 3, b"gprs=", limits::GPRS)?;
+    let (temps, rest) = lines::number(rest, 4, b"temps=", limits::TEMPS)?;
+    if !limits::fit_together(gprs, temps) {
+        return Err(BadLine(4));
+    }
+    let (consts, rest) = lines::number(rest, 5, b"consts=", limits::CONSTS)?;
+    let (stack, rest) = lines::number(rest, 6, b"stack=", limits::STACK)?;
+    let (quads, rest) = lines::number(rest, 7, b"quads=", limits::QUADS)?;
     let card = Card {
         kind,
         build,
@@ -110,31 +142,31 @@ pub fn read_card(bytes: &[u8]) -> CardRead
         stack,
         quads: Quadwords(quads as usize),
     };
-    CardRead::Whole(card, taken)
+    Ok((card, bytes.len() - rest.len()))
 }
 
 // Tests a card that a caller made against the limits that a card in bytes is held to.
 #[tactic(auto, unfolding(crate::specs::Made::test_of))]
-pub fn check_card(card: Card) -> CardTest
+pub fn check_card(card: Card) -> Result<(), BadLine>
     ensures { result ≡ test_of card }
 {
-    if !limits::within(card.gprs as usize, limits::GPRS) {
-        return CardTest::BadLine(3);
+    if !limits::GPRS.allow(card.gprs as usize) {
+        return Err(BadLine(3));
     }
-    if !limits::within(card.temps as usize, limits::TEMPS) {
-        return CardTest::BadLine(4);
+    if !limits::TEMPS.allow(card.temps as usize) {
+        return Err(BadLine(4));
     }
     if !limits::fit_together(card.gprs, card.temps) {
-        return CardTest::BadLine(4);
+        return Err(BadLine(4));
     }
-    if !limits::within(card.consts as usize, limits::CONSTS) {
-        return CardTest::BadLine(5);
+    if !limits::CONSTS.allow(card.consts as usize) {
+        return Err(BadLine(5));
     }
-    if !limits::within(card.stack as usize, limits::STACK) {
-        return CardTest::BadLine(6);
+    if !limits::STACK.allow(card.stack as usize) {
+        return Err(BadLine(6));
     }
-    if !limits::within(card.quads.0, limits::QUADS) {
-        return CardTest::BadLine(7);
+    if !limits::QUADS.allow(card.quads.0) {
+        return Err(BadLine(7));
     }
-    CardTest::InRange
+    Ok(())
 }

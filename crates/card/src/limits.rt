@@ -9,6 +9,14 @@ pub struct Limits {
     pub high: u32,
 }
 
+impl Limits {
+    pub fn allow(self, n: usize) -> bool
+        ensures { result ≡ (from self.low to self.high) n }
+    {
+        (self.low as usize..=self.high as usize).contains(&n)
+    }
+}
+
 pub const GPRS: Limits = Limits { low: 1, high: 128 };
 
 pub const TEMPS: Limits = Limits { low: 0, high: 4 };
@@ -18,12 +26,6 @@ pub const CONSTS: Limits = Limits { low: 0, high: 256 };
 pub const STACK: Limits = Limits { low: 0, high: 32 };
 
 pub const QUADS: Limits = Limits { low: 1, high: 8192 };
-
-pub fn within(n: usize, limits: Limits) -> bool
-    ensures { result ≡ (from limits.low to limits.high) n }
-{
-    (limits.low as usize <= n) & (n <= limits.high as usize)
-}
 
 // Line 4's second demand: gprs+temps at most 128.
 pub fn fit_together(gprs: u32, temps: u32) -> bool

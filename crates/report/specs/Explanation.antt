@@ -1,15 +1,12 @@
 -- An explanation of a verdict, as text: document 02, request 1: the key=value lines verdict, place, slot, rule, found and limit, in that
 -- order; for an accepted pack the verdict line only.
-use Rattle.std.specs.Prelude.{ℕ, cond, List, [], ◌∷◌, eqb}
+use Rattle.std.specs.Prelude.{ℕ, cond, Option, Some, None, Ok, Err, List, [], ◌∷◌, eqb}
 use Prim.Native.String.{String}
 use Rattle.ascii.specs.Ascii.{ascii}
 use Rattle.ascii.specs.Decimal.{decimal}
-use Rattle.checks.specs.declared.Verdict.{Verdict}
-use Rattle.checks.specs.declared.Verdict.TheVariants.{Accepted, Refused}
-use Rattle.checks.specs.declared.AtFault.{AtFault}
-use Rattle.checks.specs.declared.AtFault.TheVariants.{NoNumber, Number}
+use Rattle.checks.specs.declared.NotGranted.{NotGranted}
 use Rattle.checks.specs.declared.Explanation.{Explanation}
-use Rattle.checks.specs.Verdict.{line_or_quadword}
+use Rattle.checks.specs.Verdict.{Verdict, Accepted, line_or_quadword}
 use Rattle.report.specs.Report.{line, joined}
 
 -- each rule's number and its word; 20 and 21 are the encoder's, and no pack is refused with them
@@ -46,22 +43,22 @@ unfoldable pub rule_word : ℕ → String
 rule_word n = word_in rule_words n
 
 -- the number at fault and the limit that it breaks; a fault without numbers has a dash for each
-abbrev pub found_text : AtFault → List ℕ
-found_text NoNumber = ascii "-"
-found_text (Number found limit) = decimal found
+abbrev pub found_text : Option NotGranted → List ℕ
+found_text None = ascii "-"
+found_text (Some fault) = decimal fault.found
 
-abbrev pub limit_text : AtFault → List ℕ
-limit_text NoNumber = ascii "-"
-limit_text (Number found limit) = decimal limit
+abbrev pub limit_text : Option NotGranted → List ℕ
+limit_text None = ascii "-"
+limit_text (Some fault) = decimal fault.limit
 
 -- the lines in their order
-abbrev pub lines_for : Verdict → AtFault → List (List ℕ)
+abbrev pub lines_for : Verdict → Option NotGranted → List (List ℕ)
 lines_for Accepted fault = line "verdict" (decimal 0) ∷ []
-lines_for (Refused rule place slot) fault =
-    line "verdict" (decimal rule)
-    ∷ line "place" (decimal (line_or_quadword place))
-    ∷ line "slot" (decimal slot.0)
-    ∷ line "rule" (ascii (rule_word rule))
+lines_for (Err refusal) fault =
+    line "verdict" (decimal refusal.rule)
+    ∷ line "place" (decimal (line_or_quadword refusal.place))
+    ∷ line "slot" (decimal refusal.slot.0)
+    ∷ line "rule" (ascii (rule_word refusal.rule))
     ∷ line "found" (found_text fault)
     ∷ line "limit" (limit_text fault)
     ∷ []

@@ -1,38 +1,37 @@
 -- The report: document 01, "What the judge reads". Five lines, each ended by one line feed.
-use Rattle.std.specs.Prelude.{ℕ, Bool, true, false, cond, List, [], ◌∷◌, ◌++◌, eqb}
+use Rattle.std.specs.Prelude.{ℕ, Bool, true, false, cond, Option, Some, None, List, [], ◌∷◌, ◌++◌, eqb}
 use Prim.Native.String.{String}
 use Rattle.ascii.specs.Ascii.{ascii, line_feed}
 use Rattle.ascii.specs.Decimal.{decimal}
-use Rattle.checks.specs.declared.Verdict.{Verdict}
-use Rattle.checks.specs.Verdict.{is_accepted, verdict_number, verdict_place, verdict_slot}
-use Rattle.report.specs.declared.ReportBuild.{ReportBuild}
-use Rattle.report.specs.declared.ReportBuild.TheVariants.{Unknown, Production, Debug}
+use Rattle.card.specs.declared.Build.{Build}
+use Rattle.card.specs.declared.Build.TheVariants.{Production, Debug}
+use Rattle.checks.specs.Verdict.{Verdict, is_accepted, verdict_number, verdict_place, verdict_slot}
 
 -- a line key=value
 abbrev pub line : String → List ℕ → List ℕ
 line key value = ascii key ++ (ascii "=" ++ (value ++ ascii "\n"))
 
 -- with verdict 1 the build line reads unknown, whatever build was known
-abbrev pub shown_build : ReportBuild → Verdict → ReportBuild
-shown_build build verdict = cond (eqb (verdict_number verdict) 1) Unknown build
+abbrev pub shown_build : Option Build → Verdict → Option Build
+shown_build build verdict = cond (eqb (verdict_number verdict) 1) None build
 
-abbrev pub build_text : ReportBuild → List ℕ
-build_text Unknown = ascii "unknown"
-build_text Production = ascii "production"
-build_text Debug = ascii "debug"
+abbrev pub build_text : Option Build → List ℕ
+build_text None = ascii "unknown"
+build_text (Some Production) = ascii "production"
+build_text (Some Debug) = ascii "debug"
 
 -- release is yes exactly if the verdict is 0, accepted, and build is production, else no
-abbrev pub released : ReportBuild → Verdict → Bool
-released Unknown verdict = false
-released Production verdict = is_accepted verdict
-released Debug verdict = false
+abbrev pub released : Option Build → Verdict → Bool
+released None verdict = false
+released (Some Production) verdict = is_accepted verdict
+released (Some Debug) verdict = false
 
 abbrev pub yes_or_no : Bool → List ℕ
 yes_or_no true = ascii "yes"
 yes_or_no false = ascii "no"
 
 -- the five lines in their order
-unfoldable pub report_lines : ReportBuild → Verdict → List (List ℕ)
+unfoldable pub report_lines : Option Build → Verdict → List (List ℕ)
 report_lines build verdict =
     line "build" (build_text (shown_build build verdict))
     ∷ line "verdict" (decimal (verdict_number verdict))
@@ -47,7 +46,7 @@ joined [] = []
 joined (l ∷ ls) = l ++ joined ls
 
 -- the report's bytes
-unfoldable pub report_bytes : ReportBuild → Verdict → List ℕ
+unfoldable pub report_bytes : Option Build → Verdict → List ℕ
 report_bytes build verdict = joined (report_lines build verdict)
 
 -- ---- the bytes taken apart again: what is said of a line of the report is said of these

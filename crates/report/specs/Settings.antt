@@ -1,10 +1,11 @@
 -- Settings as text: lines NAME=number, one for each of some names. The names are a caller's: nothing here knows them.
 use Rattle.std.specs.Prelude.{ℕ, List, [], ◌∷◌, ◌++◌, map}
+use Rattle.std.specs.Borrow.{Bor}
 use Prim.Native.Char.{code}
 use Prim.Native.String.{String}
 use Rattle.ascii.specs.Ascii.{ascii}
 use Rattle.ascii.specs.Decimal.{decimal}
-use Rattle.report.specs.Report.{joined, pieces_of}
+use Rattle.report.specs.Report.{joined}
 
 -- the byte that ends a key
 abbrev pub equals_sign : ℕ
@@ -14,10 +15,9 @@ equals_sign = code "="
 abbrev pub key_of : String → List ℕ
 key_of name = ascii name ++ ascii "="
 
--- the keys that stand in a text one behind the other, each with the equals sign that ends it; what stands behind the last equals
--- sign is taken for a key too, so that no byte is left out
-abbrev pub keys_in : List ℕ → List (List ℕ)
-keys_in bytes = pieces_of equals_sign bytes
+-- the keys of names as the code has them
+abbrev pub keys_for : List (Bor (List ℕ)) → List (List ℕ)
+keys_for names = map (λ (name : Bor (List ℕ)). name.now ++ ascii "=") names
 
 -- keys set to values, the first to the first and so on, as many as there are of both: the key, and the value in decimal
 unfoldable pub setting_lines : List (List ℕ) → List ℕ → List (List ℕ)

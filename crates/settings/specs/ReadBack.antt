@@ -3,8 +3,7 @@ use Rattle.std.specs.Prelude.{ℕ, ◌^◌, ◌<◌, ◌≡◌, Bool, true, fals
 use Rattle.ascii.specs.Decimal.{decimal}
 use Rattle.card.specs.Text.{same_as}
 use Rattle.report.specs.Settings.{equals_sign}
-use Rattle.settings.specs.declared.Setting.{Setting}
-use Rattle.settings.specs.declared.Setting.TheVariants.{Is}
+use Rattle.settings.specs.Setting.{Setting, Is}
 
 -- the last byte is an equals sign, and no other is
 abbrev pub is_key : List ℕ → Bool

@@ -1,15 +1,27 @@
 -- What one setting NAME=number says, and what values become that settings change. The keys are a caller's, each a name with its equals
 -- sign: nothing here knows them. How settings are written is said in report's Settings.antt.
-use Rattle.std.specs.Prelude.{ℕ, suc, cond, List, [], ◌∷◌, length, drop, set}
-use Rattle.std.proofs.Math.Option.{Option, none, some}
+use Rattle.std.specs.Prelude.{ℕ, suc, cond, Option, Some, None, Result, Ok, Err, List, [], ◌∷◌, length, drop, set}
 use Rattle.card.specs.Text.{begins_with, number_in, of_32_bits}
-use Rattle.settings.specs.declared.Setting.{Setting}
-use Rattle.settings.specs.declared.Setting.TheVariants.{NoName, NoNumber, Is}
+use Rattle.settings.specs.declared.SettingError.{SettingError}
+use Rattle.settings.specs.declared.SettingError.TheVariants as error
+
+-- what a setting says, in the code's type for it: which key, counted from 0, is set to which number; or what is wrong with it
+abbrev pub Setting : Type 0
+Setting = Result (ℕ × ℕ) SettingError
+
+pattern abbrev pub Is : ℕ → ℕ → Setting
+Is index n = Ok (index, n)
+
+pattern abbrev pub NoName : Setting
+NoName = Err error.NoName
+
+pattern abbrev pub NoNumber : Setting
+NoNumber = Err error.NoNumber
 
 -- a setting of the key at `index`, by the number that stands behind the key
 abbrev pub value_read : ℕ → Option ℕ → Setting
-value_read index none = NoNumber
-value_read index (some n) = Is index n
+value_read index None = NoNumber
+value_read index (Some n) = Is index n
 
 -- the first key that the bytes begin with, and the number of 32 bits that the bytes behind it are; the keys are counted from `index`
 unfoldable pub setting_from : ℕ → List (List ℕ) → List ℕ → Setting

@@ -1,49 +1,38 @@
 // Settings read back: one setting NAME=number, for names that a caller gives, as `report::write_settings` writes them.
 #![tactic(auto)]
 
-ghost use Rattle.std.specs.Prelude.{◌≡◌};
-ghost use Rattle.card.specs.Text.{number_in, of_32_bits};
-ghost use Rattle.report.specs.Settings.{keys_in};
-ghost use Rattle.settings.specs.Setting.{value_read, setting_of};
+ghost use Rattle.std.specs.Prelude.{◌≡◌, ◌++◌, Some, None, option_copied, drop, length, if◌then◌else◌};
+ghost use Rattle.card.specs.Text.{begins_with};
+ghost use Rattle.ascii.specs.Ascii.{ascii};
+ghost use Rattle.report.specs.Settings.{keys_for};
+ghost use Rattle.settings.specs.Setting.{setting_of};
 ghost use Rattle.settings.specs.ReadBack.{ReadBack};
 
-use card::Number;
-
-// What one setting says: which key, counted from 0, is set to which number; or that the setting begins with none of the keys, or
-// that what stands behind its key is no number of 32 bits.
-#[derive(Clone, Copy)]
-pub enum Setting {
+// What is wrong with a setting: it begins with none of the keys, or what stands behind its key is no number of 32 bits.
+#[derive(Clone, Copy, Debug, PartialEq, Eq)]
+pub enum SettingError {
     NoName,
     NoNumber,
-    Is(usize, u32),
 }
 
-// Reads one setting, without a line feed. `keys` are one text, in which each key ends with an equals sign.
-pub fn read_setting(keys: &[u8], setting: &[u8]) -> Setting
-    ensures value { result ≡ setting_of (keys_in keys.now) setting.now }
-    ensures read_back { ReadBack (keys_in keys.now) setting.now result }
+// Reads one setting, without a line feed: which key, counted from 0, is set to which number. `keys` are names, without their equals
+// sign.
+pub fn read_setting(keys: &[&str], setting: &[u8]) -> Result<(usize, u32), SettingError>
+    ensures value { result ≡ setting_of (keys_for keys.now) setting.now }
+    ensures read_back { ReadBack (keys_for keys.now) setting.now result }
 {
-    let mut index: usize = 0;
-    let mut at = 0;
-    while at < keys.len() {
-        let end = report::key_end(keys, at);
-        let key = &keys[at..end];
-        if card::begins_with(setting, key) {
-            let behind = end - at;
-            return read_value(index, &setting[behind..]);
+    for (index, key) in keys.iter().enumerate() {
+        if let Some(value) = behind_key(setting, key) {
+            let n = card::read_number(value).ok_or(SettingError::NoNumber)?;
+            return Ok((index, n));
         }
-        index += 1;
-        at = end;
     }
-    Setting::NoName
+    Err(SettingError::NoName)
 }
 
-// What a setting of the key at `index` says, by what stands behind the key.
-fn read_value(index: usize, value: &[u8]) -> Setting
-    ensures { result ≡ value_read index (number_in of_32_bits value.now) }
+// What stands behind the key and its equals sign.
+fn behind_key<'a>(setting: &'a [u8], key: &str) -> Option<&'a [u8]>
+    ensures { let sign = key.now ++ ascii "=" in option_copied result ≡ (if begins_with sign setting.now then Some (drop (length sign) setting.now) else None) }
 {
-    let Number::Is(n) = card::read_number(value) else {
-        return Setting::NoNumber;
-    };
-    Setting::Is(index, n)
+    setting.strip_prefix(key.as_bytes())?.strip_prefix(b"=")
 }
