@@ -12,7 +12,7 @@ use Rattle.laws.proofs.OfTests.{neither}
 use Rattle.laws.proofs.OfCases.{impossible}
 use Rattle.formats.specs.Fields.{◌of◌, DST_GPR, DST_REL, SRC2_SEL, FETCH_INST, FETCH_DST_GPR, FETCH_DST_REL, FETCH_SRC_GPR, FETCH_SRC_REL}
 use Rattle.opcodes.specs.declared.cf.FetchKind.{FetchKind}
-use Rattle.std.specs.Prelude.{Option, None}
+use Rattle.std.specs.Prelude.{Option}
 use Rattle.checks.specs.declared.NotGranted.{NotGranted}
 use Rattle.grants.specs.declared.Limits.{Limits}
 use Rattle.grants.specs.Grants.{Name, register, alu_register, set0, set1, constant, locked, granted, all_granted, source_names}

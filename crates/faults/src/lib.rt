@@ -3,12 +3,12 @@
 // It is asked only of an instruction that a verdict names, so each operand is looked at, whatever the others are.
 #![tactic(auto)]
 
-ghost use Rattle.std.specs.Prelude.{◌≡◌, [], ◌∷◌};
-ghost use Rattle.grants.specs.Grants.{register, alu_register, source_names};
+ghost use Rattle.std.specs.Prelude.{◌≡◌, cond, None, [], ◌∷◌};
+ghost use Rattle.grants.specs.Grants.{register};
 ghost use Rattle.instructions.specs.Instruction as instruction;
 ghost use Rattle.fetches.specs.Fetches as fetch;
 ghost use Rattle.formats.specs.Fields.{◌of◌, FETCH_INST};
-ghost use Rattle.faults.specs.Faults.{first_fault};
+ghost use Rattle.faults.specs.Faults.{at_fault, first_fault};
 ghost use Rattle.faults.specs.Code.{named_by, third_names, source_limit};
 
 use bits::read;
@@ -18,6 +18,7 @@ use grants::Limits;
 use opcodes::cf::FetchKind;
 
 // Rule 15 on one instruction: destination, then sources.
+#[tactic(auto, using(crate::proofs::OfFaults::joined_fault, crate::proofs::OfFaults::named_by_lem), unfolding(instructions::specs::Instruction::named))]
 pub fn instruction_fault(limits: Limits, low: u32, high: u32) -> Option<NotGranted>
     ensures { result ≡ first_fault limits (instruction.named low high) }
 {
@@ -37,6 +38,7 @@ pub fn instruction_fault(limits: Limits, low: u32, high: u32) -> Option<NotGrant
 }
 
 // Rule 9 on one fetch, by its first two words: destination, then source.
+#[tactic(auto, using(crate::proofs::OfFaults::joined_fault))]
 pub fn fetch_fault(kind: FetchKind, limits: Limits, word0: u32, word1: u32) -> Option<NotGranted>
     ensures { result ≡ first_fault limits (fetch.named kind (FETCH_INST of word0) word0 word1) }
 {
@@ -46,49 +48,46 @@ pub fn fetch_fault(kind: FetchKind, limits: Limits, word0: u32, word1: u32) -> O
     destination.or(source)
 }
 
-fn destination_fault(limits: Limits, high: u32) -> Option<NotGranted>
-    ensures { result ≡ first_fault limits (instruction.destination_names high) }
+// A number, unless it is granted.
+fn unless(granted: bool, found: u32, limit: usize) -> Option<NotGranted>
+    ensures { result ≡ cond granted None (at_fault found limit) }
 {
-    if !instructions::is_written(high) {
-        return None;
-    }
-    if read(high, fields::DST_REL) != 0 {
-        return None;
-    }
-    alu_register_fault(limits, read(high, fields::DST_GPR))
-}
-
-fn alu_register_fault(limits: Limits, r: u32) -> Option<NotGranted>
-    ensures { result ≡ first_fault limits (alu_register r ∷ []) }
-{
-    if grants::alu_register_granted(limits, r) {
+    if granted {
         return None;
     }
     Some(NotGranted {
-        found: r as usize,
-        limit: limits.gprs as usize,
+        found: found as usize,
+        limit,
     })
 }
 
+#[tactic(auto, unfolding(crate::specs::Faults::first_fault, instructions::specs::Instruction::destination_names))]
+fn destination_fault(limits: Limits, high: u32) -> Option<NotGranted>
+    ensures { result ≡ first_fault limits (instruction.destination_names high) }
+{
+    if !instructions::is_written(high) || read(high, fields::DST_REL) != 0 {
+        return None;
+    }
+    let r = read(high, fields::DST_GPR);
+    unless(
+        grants::alu_register_granted(limits, r),
+        r,
+        limits.gprs as usize,
+    )
+}
+
+#[tactic(auto, unfolding(crate::specs::Faults::first_fault))]
 fn source_fault(limits: Limits, sel: u32, rel: u32) -> Option<NotGranted>
     ensures { result ≡ first_fault limits (named_by sel rel) }
 {
     if rel != 0 {
         return None;
     }
-    direct_source_fault(limits, sel)
-}
-
-fn direct_source_fault(limits: Limits, sel: u32) -> Option<NotGranted>
-    ensures { result ≡ first_fault limits (source_names sel) }
-{
-    if grants::source_granted(limits, sel) {
-        return None;
-    }
-    Some(NotGranted {
-        found: sel as usize,
-        limit: source_limit(limits, sel),
-    })
+    unless(
+        grants::source_granted(limits, sel),
+        sel,
+        source_limit(limits, sel),
+    )
 }
 
 // The first source of a sort that is not granted: registers, the two locked sets, the constant file.
@@ -108,6 +107,7 @@ fn source_limit(limits: Limits, sel: u32) -> usize
 }
 
 // Only an OP3 has a third source.
+#[tactic(auto, using(crate::proofs::OfFaults::named_by_lem), unfolding(crate::specs::Faults::first_fault))]
 fn third_source_fault(limits: Limits, high: u32) -> Option<NotGranted>
     ensures { result ≡ first_fault limits (third_names high) }
 {
@@ -122,18 +122,22 @@ fn third_source_fault(limits: Limits, high: u32) -> Option<NotGranted>
 }
 
 // A semantic fetch looks its destination up, and names none.
-fn fetch_destination_fault(kind: FetchKind, number: u32, limits: Limits, word1: u32) -> Option<NotGranted>
+#[tactic(auto, unfolding(crate::specs::Faults::first_fault))]
+fn fetch_destination_fault(
+    kind: FetchKind,
+    number: u32,
+    limits: Limits,
+    word1: u32,
+) -> Option<NotGranted>
     ensures { result ≡ first_fault limits (fetch.destination kind number word1) }
 {
-    if fetches::is_semantic(kind, number) {
-        return None;
-    }
-    if read(word1, fields::FETCH_DST_REL) != 0 {
+    if fetches::is_semantic(kind, number) || read(word1, fields::FETCH_DST_REL) != 0 {
         return None;
     }
     register_fault(limits, read(word1, fields::FETCH_DST_GPR))
 }
 
+#[tactic(auto, unfolding(crate::specs::Faults::first_fault))]
 fn fetch_source_fault(limits: Limits, word0: u32) -> Option<NotGranted>
     ensures { result ≡ first_fault limits (fetch.source word0) }
 {
@@ -143,14 +147,9 @@ fn fetch_source_fault(limits: Limits, word0: u32) -> Option<NotGranted>
     register_fault(limits, read(word0, fields::FETCH_SRC_GPR))
 }
 
+#[tactic(auto, unfolding(crate::specs::Faults::first_fault))]
 fn register_fault(limits: Limits, r: u32) -> Option<NotGranted>
     ensures { result ≡ first_fault limits (register r ∷ []) }
 {
-    if grants::register_granted(limits, r) {
-        return None;
-    }
-    Some(NotGranted {
-        found: r as usize,
-        limit: limits.gprs as usize,
-    })
+    unless(grants::register_granted(limits, r), r, limits.gprs as usize)
 }
