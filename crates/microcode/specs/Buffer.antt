@@ -1,12 +1,9 @@
 -- Decoding and encoding at a start in a buffer of words: document 01, "Numbers and what they mean", the two paragraphs on encoder and
 -- decoder. A start is a word number and may be any number.
-use Rattle.std.specs.Prelude.{ℕ, ◌+◌, ◌≡◌, Bool, cond, ◌&&◌, List, leb, length, get_or, set}
+use Rattle.std.specs.Prelude.{ℕ, ◌+◌, ◌≡◌, Bool, cond, List, leb, length, get_or, take, drop, ◌++◌, Option, Some, None, Result, Ok, Err}
 use Rattle.units.specs.declared.Words.{Words}
-use Rattle.units.specs.Units.{slots}
 use Rattle.checks.specs.declared.Place.TheVariants.{Whole}
-use Rattle.checks.specs.declared.Verdict.{Verdict}
-use Rattle.checks.specs.declared.Verdict.TheVariants.{Accepted, Refused}
-use Rattle.checks.specs.Verdict.{verdict_number, verdict_place, verdict_slot}
+use Rattle.checks.specs.Verdict.{Verdict, Accepted, refusal, verdict_number, verdict_place, verdict_slot}
 use Rattle.formats.specs.Cf as cf
 use Rattle.formats.specs.CfAlu as cf_alu
 use Rattle.formats.specs.Export as export
@@ -15,44 +12,44 @@ use Rattle.microcode.specs.declared.Instruction.{Instruction}
 use Rattle.microcode.specs.declared.Instruction.TheVariants.{CfAlu, Cf, Export, Op2, Op3}
 use Rattle.microcode.specs.declared.FoundPair.{FoundPair}
 use Rattle.microcode.specs.declared.FoundPair.TheVariants as found
-use Rattle.microcode.specs.declared.Decoded.{Decoded}
-use Rattle.microcode.specs.declared.Decoded.TheVariants.{Outside, NotTaken, Taken}
-use Rattle.microcode.specs.declared.Encoded.{Encoded}
-use Rattle.microcode.specs.declared.words.RecordWords.{RecordWords}
-use Rattle.microcode.specs.declared.Encoded.TheVariants.{NoRecord, NoRoom, Done}
+use Rattle.microcode.specs.declared.DecodeError.{DecodeError}
+use Rattle.microcode.specs.declared.DecodeError.TheVariants.{Outside, NotTaken}
+use Rattle.microcode.specs.declared.EncodeError.TheVariants.{NoRecord, NoRoom}
 use Rattle.microcode.specs.declared.Stream.{Stream}
 use Rattle.microcode.specs.declared.Stream.TheVariants.{ControlFlow, Alu}
+use Rattle.microcode.specs.Answer.{Decoded, Encoded, Done}
 use Rattle.microcode.specs.Pair.{pair_of, number_taken, words_of}
 
--- two words from start on lie wholly in the words
-unfoldable pub room : List ℕ → ℕ → Bool
-room l start = leb (start + 2) (length l)
+-- n words from start on lie wholly in the words
+unfoldable pub room : ℕ → List ℕ → ℕ → Bool
+room n l start = leb (start + n) (length l)
 
 -- the pair at start, where it is wholly in the words
 unfoldable pub decode_of : Stream → List ℕ → Words → Decoded
-decode_of stream l start = cond (room l start.0) (pair_of stream (get_or l start.0 0) (get_or l (start.0 + 1) 0)) Outside
+decode_of stream l start =
+    cond (room 2 l start.0) (pair_of stream (get_or l start.0 0) (get_or l (start.0 + 1) 0)) (Err Outside)
 
 -- the record of a form that was found with these words
-abbrev pub decoded_from : FoundPair → Decoded
-decoded_from found.Outside = Outside
-decoded_from found.NotTaken = NotTaken
-decoded_from (found.CfAlu lo hi) = Taken (CfAlu (cf_alu.word0_of lo) (cf_alu.word1_of hi))
-decoded_from (found.Cf lo hi) = Taken (Cf (cf.word0_of lo) (cf.word1_of hi))
-decoded_from (found.Export lo hi) = Taken (Export (export.word0_of lo) (export.word1_of hi))
-decoded_from (found.Op2 lo hi) = Taken (Op2 (alu.word0_of lo) (alu.op2_of hi))
-decoded_from (found.Op3 lo hi) = Taken (Op3 (alu.word0_of lo) (alu.op3_of hi))
+abbrev pub record_found : FoundPair → Instruction
+record_found (found.CfAlu lo hi) = CfAlu (cf_alu.word0_of lo) (cf_alu.word1_of hi)
+record_found (found.Cf lo hi) = Cf (cf.word0_of lo) (cf.word1_of hi)
+record_found (found.Export lo hi) = Export (export.word0_of lo) (export.word1_of hi)
+record_found (found.Op2 lo hi) = Op2 (alu.word0_of lo) (alu.op2_of hi)
+record_found (found.Op3 lo hi) = Op3 (alu.word0_of lo) (alu.op3_of hi)
 
--- what the encoder answers: the record is asked about before the room
-abbrev pub answer_for : Bool → Bool → Encoded
-answer_for is-record has_room = cond is-record (cond has_room Done NoRoom) NoRecord
+abbrev pub decoded_from : Result FoundPair DecodeError → Decoded
+decoded_from (Ok found) = Ok (record_found found)
+decoded_from (Err e) = Err e
 
--- the words of a record at start
-unfoldable pub write_answer : RecordWords → List ℕ → Words → Encoded
-write_answer w l start = answer_for w.is_record (room l start.0)
+-- the words of a record at start, or none where it is no record: that is asked about before the room
+unfoldable pub write_answer : Option (List ℕ) → List ℕ → Words → Encoded
+write_answer None l start = Err NoRecord
+write_answer (Some ws) l start = cond (room (length ws) l start.0) Done (Err NoRoom)
 
 -- the whole buffer afterwards: all other words stay, and a refusal writes nothing
-unfoldable pub write_words : RecordWords → List ℕ → Words → List ℕ
-write_words w l start = cond (w.is_record && room l start.0) (set (set l start.0 w.low) (start.0 + 1) w.high) l
+unfoldable pub write_words : Option (List ℕ) → List ℕ → Words → List ℕ
+write_words None l start = l
+write_words (Some ws) l start = cond (room (length ws) l start.0) (take start.0 l ++ (ws ++ drop (start.0 + length ws) l)) l
 
 -- a record at start
 abbrev pub encode_answer : Instruction → List ℕ → Words → Encoded
@@ -75,16 +72,16 @@ not_taken Alu = 11
 
 -- every refusal has place and slot 0
 abbrev pub refused : ℕ → Verdict
-refused rule = Refused rule Whole (slots 0)
+refused rule = Err (refusal rule Whole 0)
 
 abbrev pub decoded_verdict : Stream → Decoded → Verdict
-decoded_verdict stream Outside = refused 2
-decoded_verdict stream NotTaken = refused (not_taken stream)
-decoded_verdict stream (Taken i) = Accepted
+decoded_verdict stream (Err Outside) = refused 2
+decoded_verdict stream (Err NotTaken) = refused (not_taken stream)
+decoded_verdict stream (Ok i) = Accepted
 
 abbrev pub encoded_verdict : Encoded → Verdict
-encoded_verdict NoRecord = refused 21
-encoded_verdict NoRoom = refused 20
+encoded_verdict (Err NoRecord) = refused 21
+encoded_verdict (Err NoRoom) = refused 20
 encoded_verdict Done = Accepted
 
 -- a verdict of that number, with place and slot 0
@@ -96,14 +93,12 @@ pub record Answers (v : Verdict) (n : ℕ) : Type 0 where
 -- 2 if the pair isn't wholly in the words, else 4 or 11 if the number isn't taken, and otherwise always a record
 unfoldable pub decode_number : Stream → List ℕ → Words → ℕ
 decode_number stream l start =
-    cond (room l start.0) (cond (number_taken stream (get_or l (start.0 + 1) 0)) 0 (not_taken stream)) 2
+    cond (room 2 l start.0) (cond (number_taken stream (get_or l (start.0 + 1) 0)) 0 (not_taken stream)) 2
 
 -- 21 if they are no record's words, else 20 if they don't fit at the start
-abbrev pub number_for : Bool → Bool → ℕ
-number_for is-record has_room = cond is-record (cond has_room 0 20) 21
-
-unfoldable pub write_number : RecordWords → List ℕ → Words → ℕ
-write_number w l start = number_for w.is_record (room l start.0)
+unfoldable pub write_number : Option (List ℕ) → List ℕ → Words → ℕ
+write_number None l start = 21
+write_number (Some ws) l start = cond (room (length ws) l start.0) 0 20
 
 -- 21 if a field exceeds its width or the record isn't of a taken form, else 20 if the words don't fit at the start
 abbrev pub encode_number : Instruction → List ℕ → Words → ℕ

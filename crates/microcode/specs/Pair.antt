@@ -1,6 +1,6 @@
 -- The five forms of a word pair: which instruction two words hold, and which words an instruction has. Document 01, "Control-flow
 -- words" and "Groups of ALU slots"; the fields are those of the tables in Cf, CfAlu, Export and Alu of crate formats.
-use Rattle.std.specs.Prelude.{ℕ, Bool, cond, not, ◌&&◌, eqb}
+use Rattle.std.specs.Prelude.{ℕ, Bool, cond, not, ◌&&◌, eqb, List, [], ◌∷◌, Option, Some, None, Ok, Err}
 use Rattle.bits.specs.Tables.{word_of, fits_table}
 use Rattle.opcodes.specs.Numbers.{cf_alu_control, cf_control, is_taken, is_export}
 use Rattle.opcodes.specs.Alu.{op2_class, op3_class}
@@ -12,24 +12,23 @@ use Rattle.formats.specs.Export as export
 use Rattle.formats.specs.Alu as alu
 use Rattle.microcode.specs.declared.Instruction.{Instruction}
 use Rattle.microcode.specs.declared.Instruction.TheVariants.{CfAlu, Cf, Export, Op2, Op3}
-use Rattle.microcode.specs.declared.Decoded.{Decoded}
-use Rattle.microcode.specs.declared.Decoded.TheVariants.{NotTaken, Taken}
-use Rattle.microcode.specs.declared.words.RecordWords.{RecordWords}
+use Rattle.microcode.specs.declared.DecodeError.TheVariants.{NotTaken}
 use Rattle.microcode.specs.declared.Stream.{Stream}
 use Rattle.microcode.specs.declared.Stream.TheVariants as stream
+use Rattle.microcode.specs.Answer.{Decoded}
 
 -- ---- from words
 
 -- an ALU clause opener
 unfoldable pub opener_pair_of : ℕ → ℕ → Decoded
 opener_pair_of lo hi =
-    cond (is_taken (cf_alu_control (CF_ALU_INST of hi))) (Taken (CfAlu (cf_alu.word0_of lo) (cf_alu.word1_of hi))) NotTaken
+    cond (is_taken (cf_alu_control (CF_ALU_INST of hi))) (Ok (CfAlu (cf_alu.word0_of lo) (cf_alu.word1_of hi))) (Err NotTaken)
 
 -- any other control-flow pair; exports have a layout of their own
 unfoldable pub plain_pair_of : ℕ → ℕ → Decoded
 plain_pair_of lo hi =
-    cond (is_export (cf_control (CF_INST of hi))) (Taken (Export (export.word0_of lo) (export.word1_of hi)))
-    (cond (is_taken (cf_control (CF_INST of hi))) (Taken (Cf (cf.word0_of lo) (cf.word1_of hi))) NotTaken)
+    cond (is_export (cf_control (CF_INST of hi))) (Ok (Export (export.word0_of lo) (export.word1_of hi)))
+    (cond (is_taken (cf_control (CF_INST of hi))) (Ok (Cf (cf.word0_of lo) (cf.word1_of hi))) (Err NotTaken))
 
 -- an ALU clause opener has high bit 29 set
 unfoldable pub cf_pair_of : ℕ → ℕ → Decoded
@@ -37,11 +36,11 @@ cf_pair_of lo hi = cond (eqb (CF_ALU_MARK of hi) 1) (opener_pair_of lo hi) (plai
 
 unfoldable pub op2_pair_of : ℕ → ℕ → Decoded
 op2_pair_of lo hi =
-    cond (class.is_taken (op2_class (OP2_INST of hi))) (Taken (Op2 (alu.word0_of lo) (alu.op2_of hi))) NotTaken
+    cond (class.is_taken (op2_class (OP2_INST of hi))) (Ok (Op2 (alu.word0_of lo) (alu.op2_of hi))) (Err NotTaken)
 
 unfoldable pub op3_pair_of : ℕ → ℕ → Decoded
 op3_pair_of lo hi =
-    cond (class.is_taken (op3_class (OP3_INST of hi))) (Taken (Op3 (alu.word0_of lo) (alu.op3_of hi))) NotTaken
+    cond (class.is_taken (op3_class (OP3_INST of hi))) (Ok (Op3 (alu.word0_of lo) (alu.op3_of hi))) (Err NotTaken)
 
 -- OP2 if high bits 17:15 are 0, else OP3
 unfoldable pub alu_pair_of : ℕ → ℕ → Decoded
@@ -108,6 +107,10 @@ high_of (Export a b) = word_of export.word1_table (export.word1_values b)
 high_of (Op2 a b) = word_of alu.op2_table (alu.op2_values b)
 high_of (Op3 a b) = word_of alu.op3_table (alu.op3_values b)
 
+-- two words, where they are a record's
+abbrev pub words_if : Bool → ℕ → ℕ → Option (List ℕ)
+words_if is_record low high = cond is_record (Some (low ∷ high ∷ [])) None
+
 -- what the encoder makes of a record
-abbrev pub words_of : Instruction → RecordWords
-words_of i = record { is_record = encodable i; low = low_of i; high = high_of i }
+abbrev pub words_of : Instruction → Option (List ℕ)
+words_of i = words_if (encodable i) (low_of i) (high_of i)

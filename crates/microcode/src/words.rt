@@ -1,24 +1,18 @@
-// The words of a record, form by form: what the encoder writes, and whether it may. A caller that knows the form asks by it, so that nothing has
-// to ask for the form again.
-ghost use Rattle.std.specs.Prelude.{◌≡◌};
+// The words of a record, form by form: what the encoder writes, where the record is of a taken form and each of its fields within its width. A
+// caller that knows the form asks by it, so that nothing has to ask for the form again.
+ghost use Rattle.std.specs.Prelude.{◌≡◌, ◌&&◌};
+ghost use Rattle.bits.specs.Tables.{word_of, fits_table};
 ghost use Rattle.microcode.specs.declared.Instruction.TheVariants as form;
-ghost use Rattle.microcode.specs.Pair.{words_of};
+ghost use Rattle.microcode.specs.Pair.{words_of, words_if};
 
 use crate::Instruction;
+use formats::Format;
 use formats::alu::{AluWord0, AluWord1Op2, AluWord1Op3};
 use formats::cf::{CfWord0, CfWord1};
 use formats::cf_alu::{CfAluWord0, CfAluWord1};
 use formats::export::{CfAllocExportWord0, CfAllocExportWord1Swiz};
 
-#[derive(Clone, Copy)]
-pub struct RecordWords {
-    // The record is of a taken form, and each of its fields within its width.
-    pub is_record: bool,
-    pub low: u32,
-    pub high: u32,
-}
-
-pub(crate) fn of_record(i: Instruction) -> RecordWords
+pub(crate) fn of_record(i: Instruction) -> Option<[u32; 2]>
     ensures { result ≡ words_of i }
 {
     match i {
@@ -30,62 +24,45 @@ pub(crate) fn of_record(i: Instruction) -> RecordWords
     }
 }
 
-pub fn of_cf_alu(a: CfAluWord0, b: CfAluWord1) -> RecordWords
+// Of a record whose form takes its number, or not.
+fn of_words<A: Format, B: Format>(a: A, b: B, taken: bool) -> Option<[u32; 2]>
+    ensures { result ≡ words_if (fits_table A.table (A.values a) && fits_table B.table (B.values b) && taken) (word_of A.table (A.values a)) (word_of B.table (B.values b)) }
+{
+    let is_record = a.fits() & b.fits() & taken;
+    is_record.then_some([a.write(), b.write()])
+}
+
+pub fn of_cf_alu(a: CfAluWord0, b: CfAluWord1) -> Option<[u32; 2]>
     ensures { result ≡ words_of (form.CfAlu a b) }
 {
     let control = opcodes::cf::cf_alu_control(b.cf_inst);
-    let fits = formats::cf_alu::word0_fits(a) & formats::cf_alu::word1_fits(b);
-    RecordWords {
-        is_record: fits & opcodes::cf::is_taken(control),
-        low: formats::cf_alu::write_word0(a),
-        high: formats::cf_alu::write_word1(b),
-    }
+    of_words(a, b, opcodes::cf::is_taken(control))
 }
 
-pub fn of_cf(a: CfWord0, b: CfWord1) -> RecordWords
+pub fn of_cf(a: CfWord0, b: CfWord1) -> Option<[u32; 2]>
     ensures { result ≡ words_of (form.Cf a b) }
 {
     let control = opcodes::cf::cf_control(b.cf_inst);
-    let fits = formats::cf::word0_fits(a) & formats::cf::word1_fits(b);
-    RecordWords {
-        is_record: fits & (opcodes::cf::is_taken(control) & !opcodes::cf::is_export(control)),
-        low: formats::cf::write_word0(a),
-        high: formats::cf::write_word1(b),
-    }
+    of_words(a, b, opcodes::cf::is_taken(control) & !opcodes::cf::is_export(control))
 }
 
-pub fn of_export(a: CfAllocExportWord0, b: CfAllocExportWord1Swiz) -> RecordWords
+pub fn of_export(a: CfAllocExportWord0, b: CfAllocExportWord1Swiz) -> Option<[u32; 2]>
     ensures { result ≡ words_of (form.Export a b) }
 {
     let control = opcodes::cf::cf_control(b.cf_inst);
-    let fits = formats::export::word0_fits(a) & formats::export::word1_fits(b);
-    RecordWords {
-        is_record: fits & opcodes::cf::is_export(control),
-        low: formats::export::write_word0(a),
-        high: formats::export::write_word1(b),
-    }
+    of_words(a, b, opcodes::cf::is_export(control))
 }
 
-pub fn of_op2(a: AluWord0, b: AluWord1Op2) -> RecordWords
+pub fn of_op2(a: AluWord0, b: AluWord1Op2) -> Option<[u32; 2]>
     ensures { result ≡ words_of (form.Op2 a b) }
 {
     let class = opcodes::alu::op2_class(b.alu_inst);
-    let fits = formats::alu::word0_fits(a) & formats::alu::op2_fits(b);
-    RecordWords {
-        is_record: fits & opcodes::alu::is_taken(class),
-        low: formats::alu::write_word0(a),
-        high: formats::alu::write_op2(b),
-    }
+    of_words(a, b, opcodes::alu::is_taken(class))
 }
 
-pub fn of_op3(a: AluWord0, b: AluWord1Op3) -> RecordWords
+pub fn of_op3(a: AluWord0, b: AluWord1Op3) -> Option<[u32; 2]>
     ensures { result ≡ words_of (form.Op3 a b) }
 {
     let class = opcodes::alu::op3_class(b.alu_inst);
-    let fits = formats::alu::word0_fits(a) & formats::alu::op3_fits(b);
-    RecordWords {
-        is_record: fits & opcodes::alu::is_taken(class),
-        low: formats::alu::write_word0(a),
-        high: formats::alu::write_op3(b),
-    }
+    of_words(a, b, opcodes::alu::is_taken(class))
 }
