@@ -3,9 +3,9 @@ use Rattle.std.proofs.Common.{◌≡◌, ℕ, ◌+◌, ◌≤◌, List, ◌++◌
 use Rattle.std.proofs.Math.Seq.{take-append-add}
 use Rattle.std.proofs.lemmas.List.{length-take-le, take-append-le, length-replicate}
 
--- a room of n zeros has room for n bytes
-pub zeros : (n : ℕ) → n ≤ length (replicate {A = ℕ} n 0)
-zeros n = omega (arith, length-replicate {A = ℕ} n 0)
+-- a room of n zeros has room for as few bytes
+pub zeros : {k n : ℕ} → k ≤ n → k ≤ length (replicate {A = ℕ} n 0)
+zeros {k} {n} h = omega (arith, length-replicate {A = ℕ} n 0)
 
 -- n bytes of a part that follows the first `done` of a room stand behind them
 pub read_more : (done n : ℕ) (room part rest : List ℕ) → done ≤ length room → n ≤ length part

@@ -1,15 +1,15 @@
 // Standard input, and files by the arguments that name them. What can't be read is told on standard error, and never taken for the end of a file.
-ghost use Rattle.std.specs.Prelude.{◌≡◌, ◌<◌, ◌≤◌, IfOk, OnErr, length, take};
+ghost use Rattle.std.specs.Prelude.{◌≡◌, ◌<◌, ◌≤◌, Some, None, IfOk, IfSome, OnErr, MatchResult, length, take};
 ghost use Rattle.std.specs.Counts.{IsPrefixLen};
 ghost use Rattle.std.specs.Io.KnownBytes.{Consumes, IsAtEnd};
-ghost use Rattle.console.specs.Files.{Within, GaveSome, ReadFrom, IsSilent, bytes_of, is_failed};
+ghost use Rattle.console.specs.Files.{GaveSome, ReadFrom, IsSilent};
 
 use std::env::FillError;
+use std::fmt;
 use std::fmt::InlineText;
 use std::io::{Error, ErrorKind, Read, Write};
 use std::rt::{Env, Files};
 use std::{fs, io, str};
-use units::smaller;
 
 // The program that reads, as its messages name it.
 #[derive(Clone, Copy)]
@@ -19,86 +19,53 @@ pub enum Tool {
     Fetch,
 }
 
-// How many bytes of a file stand at the start of a room, or that it could not be read.
-#[derive(Clone, Copy)]
-pub enum FileRead {
-    Failed,
-    Bytes(usize),
+impl fmt::Display for Tool {
+    fn fmt<W: fmt::Write>(&self, f: &mut fmt::Formatter<W>) -> fmt::Result {
+        f.write_str(match self {
+            Tool::Judge => "judge",
+            Tool::Explain => "explain",
+            Tool::Fetch => "fetch",
+        })
+    }
 }
 
-// Reads standard input until it ends or the room is full. What fails is told.
+// Reads standard input until it ends or the room is full, and answers how many bytes then stand in the room. What fails is told.
 pub fn read_input<R: Read, E: Write>(
     input: &mut R,
     errors: &mut E,
     tool: Tool,
     room: &mut [u8],
-) -> FileRead
-    ensures within { Within result room.new }
+) -> Option<usize>
+    ensures within { IfSome result (λ n. IsPrefixLen n room.new) }
     ensures bytes { ReadFrom (R.remaining input.old) (R.remaining input.new) result room.new }
     ensures silent { IsSilent result (E.contents errors.old) (E.contents errors.new) }
 {
-    match read_all(input, room) {
-        Ok(n) => FileRead::Bytes(n),
-        Err(reason) => {
-            tell(errors, tool, b"standard input", reason);
-            FileRead::Failed
-        }
-    }
+    let read = read_all(input, room);
+    or_told(errors, tool, b"standard input", read)
 }
 
-// Reads the file that argument i names, until it ends or the room is full. What fails is told.
+// Reads the file that argument i names, until it ends or the room is full, and answers how many bytes then stand in the room. What fails is told.
 pub fn read_argument<E: Write>(
     rt: &(impl Env + Files),
     errors: &mut E,
     tool: Tool,
     i: usize,
     room: &mut [u8],
-) -> FileRead
-    ensures within { Within result room.new }
+) -> Option<usize>
+    ensures within { IfSome result (λ n. IsPrefixLen n room.new) }
     ensures silent { IsSilent result (E.contents errors.old) (E.contents errors.new) }
 {
     let mut path = [0u8; 4096];
-    let n = match rt.arg(i, &mut path) {
-        Ok(n) => n,
-        Err(error) => {
-            tell(errors, tool, b"an argument", reason_of(error));
-            return FileRead::Failed;
-        }
-    };
-    match read_file(rt, &path[..n], room) {
-        Ok(m) => FileRead::Bytes(m),
-        Err(reason) => {
-            tell(errors, tool, &path[..n], reason);
-            FileRead::Failed
-        }
-    }
+    let name = rt.arg(i, &mut path).map_err(reason_of);
+    let n = or_told(errors, tool, b"an argument", name)?;
+    let read = read_file(rt, &path[..n], room);
+    or_told(errors, tool, &path[..n], read)
 }
 
 // Whether there is an argument i. Argument 0 is the program's name. Which there are is for the system to say: std promises nothing of it that a clause
 // here could rest on.
 pub fn is_given(rt: &impl Env, i: usize) -> bool {
     !matches!(rt.arg(i, &mut []), Err(FillError::NotPresent))
-}
-
-// How many bytes of the room were read: none where reading failed, and never more than there are. It takes the room and not its length, so
-// that its contract can speak of the room.
-pub fn bytes_read(read: FileRead, room: &[u8]) -> usize
-    ensures prefix_len { IsPrefixLen result room.now }
-    ensures value { result ≡ bytes_of read (length room.now) }
-{
-    match read {
-        FileRead::Failed => 0,
-        FileRead::Bytes(n) => smaller(n, room.len()),
-    }
-}
-
-pub fn is_failed(read: FileRead) -> bool
-    ensures { result ≡ is_failed read }
-{
-    match read {
-        FileRead::Failed => true,
-        FileRead::Bytes(_) => false,
-    }
 }
 
 // A name that is not UTF-8 can't be opened.
@@ -112,7 +79,8 @@ fn read_file(files: &impl Files, path: &[u8], room: &mut [u8]) -> io::Result<usi
     read_all(&mut file, room)
 }
 
-// Reads until the file ends or the room is full, and answers how many bytes stand in the room.
+// Reads until the file ends or the room is full, and answers how many bytes stand in the room. A turn reads as many as the file gives, so the
+// count is the file's to move, and no iterator's.
 pub fn read_all<R: Read>(file: &mut R, room: &mut [u8]) -> io::Result<usize>
     ensures within { IfOk result (λ n. n ≤ length room.new) }
     ensures bytes { IfOk result (λ n. Consumes (R.remaining file.old) (R.remaining file.new) (take n room.new)) }
@@ -123,14 +91,14 @@ pub fn read_all<R: Read>(file: &mut R, room: &mut [u8]) -> io::Result<usize>
     while done < room.len() {
         let more = file.read(&mut room[done..])?;
         if more == 0 {
-            return Ok(done);
+            break;
         }
         done += more;
     }
     Ok(done)
 }
 
-// Why an argument is not had, as the system would name it.
+// Why an argument is not had, as the system would name it. Both types are std's, so that no From can stand here.
 fn reason_of(error: FillError) -> Error {
     match error {
         FillError::NotPresent => Error::from_raw_os_error(EINVAL),
@@ -143,27 +111,31 @@ const EINVAL: i32 = 22;
 
 const ENAMETOOLONG: i32 = 36;
 
+// How many bytes were read; what failed is told, and gives none.
+fn or_told<E: Write>(
+    errors: &mut E,
+    tool: Tool,
+    what: &[u8],
+    read: io::Result<usize>,
+) -> Option<usize>
+    ensures value { MatchResult read (λ n. result ≡ Some n) (λ _. result ≡ None) }
+    ensures silent { IsSilent result (E.contents errors.old) (E.contents errors.new) }
+{
+    match read {
+        Ok(n) => Some(n),
+        Err(reason) => {
+            tell(errors, tool, what, reason);
+            None
+        }
+    }
+}
+
 // Writes a line to standard error: what failed, and the system's reason. Where that can't be written it is lost.
 pub(crate) fn tell(errors: &mut impl Write, tool: Tool, what: &[u8], reason: Error) {
-    say(errors, name_of(tool).as_bytes());
-    say(errors, b": ");
-    say(errors, what);
-    say(errors, b": ");
     let text = InlineText::<120>::of(reason);
-    say(errors, without_number(text.as_str()).as_bytes());
-    say(errors, b"\n");
-}
-
-fn say(errors: &mut impl Write, text: &[u8]) {
-    let _ = errors.write_all(text);
-}
-
-fn name_of(tool: Tool) -> &'static str {
-    match tool {
-        Tool::Judge => "judge",
-        Tool::Explain => "explain",
-        Tool::Fetch => "fetch",
-    }
+    let _ = write!(errors, "{tool}: ");
+    let _ = errors.write_all(what);
+    let _ = writeln!(errors, ": {}", without_number(text.as_str()));
 }
 
 // The system's own words: std puts its number of the error behind them.

@@ -2,7 +2,7 @@
 // on standard error and writes nothing else.
 #![tactic(auto)]
 
-use console::Tool;
+use console::{CARD, EXPLANATION, ExplanationOfFiles, PACK, Tool};
 
 fn main(rt: HostRuntime) {
     let mut errors = rt.stderr();
@@ -10,24 +10,18 @@ fn main(rt: HostRuntime) {
         let _ = errors.write_all(b"usage: explain_files CARD PACK\n");
         return;
     }
-    let mut card = console::card_room();
-    let card_read = console::read_argument(&rt, &mut errors, Tool::Explain, 1, &mut card);
-    if console::is_failed(card_read) {
+    let mut card = console::room::<CARD>();
+    let Some(n) = console::read_argument(&rt, &mut errors, Tool::Explain, 1, &mut card) else {
         return;
-    }
-    let mut pack = console::pack_room();
-    let pack_read = console::read_argument(&rt, &mut errors, Tool::Explain, 2, &mut pack);
-    if console::is_failed(pack_read) {
+    };
+    let mut pack = console::room::<PACK>();
+    let Some(m) = console::read_argument(&rt, &mut errors, Tool::Explain, 2, &mut pack) else {
         return;
-    }
-    let n = console::bytes_read(card_read, &card);
-    let m = console::bytes_read(pack_read, &pack);
-    let mut lines = console::explanation_room();
-    console::explain_on_files(
-        &mut rt.stdout(),
-        &mut errors,
-        &card[..n],
-        &pack[..m],
-        &mut lines,
-    );
+    };
+    let explanation = ExplanationOfFiles {
+        card: &card[..n],
+        pack: &pack[..m],
+    };
+    let mut room = console::room::<EXPLANATION>();
+    console::write_answer(&mut rt.stdout(), &mut errors, &explanation, &mut room);
 }

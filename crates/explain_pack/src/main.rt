@@ -2,16 +2,16 @@
 // the program says so on standard error and writes nothing else.
 #![tactic(auto)]
 
-use console::Tool;
+use console::{EXPLANATION, ExplanationOf, INPUT, Tool};
 
 fn main(rt: HostRuntime) {
     let mut errors = rt.stderr();
-    let mut bytes = console::input_room();
+    let mut bytes = console::room::<INPUT>();
     let read = console::read_input(&mut rt.stdin(), &mut errors, Tool::Explain, &mut bytes);
-    if console::is_failed(read) {
+    let Some(n) = read else {
         return;
-    }
-    let n = console::bytes_read(read, &bytes);
-    let mut lines = console::explanation_room();
-    console::explain_on(&mut rt.stdout(), &mut errors, &bytes[..n], &mut lines);
+    };
+    let explanation = ExplanationOf(&bytes[..n]);
+    let mut room = console::room::<EXPLANATION>();
+    console::write_answer(&mut rt.stdout(), &mut errors, &explanation, &mut room);
 }

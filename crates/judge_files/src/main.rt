@@ -2,7 +2,7 @@
 // standard error and writes no report.
 #![tactic(auto)]
 
-use console::Tool;
+use console::{CARD, PACK, REPORT, ReportOnFiles, Tool};
 
 fn main(rt: HostRuntime) {
     let mut errors = rt.stderr();
@@ -10,24 +10,18 @@ fn main(rt: HostRuntime) {
         let _ = errors.write_all(b"usage: judge_files CARD PACK\n");
         return;
     }
-    let mut card = console::card_room();
-    let card_read = console::read_argument(&rt, &mut errors, Tool::Judge, 1, &mut card);
-    if console::is_failed(card_read) {
+    let mut card = console::room::<CARD>();
+    let Some(n) = console::read_argument(&rt, &mut errors, Tool::Judge, 1, &mut card) else {
         return;
-    }
-    let mut pack = console::pack_room();
-    let pack_read = console::read_argument(&rt, &mut errors, Tool::Judge, 2, &mut pack);
-    if console::is_failed(pack_read) {
+    };
+    let mut pack = console::room::<PACK>();
+    let Some(m) = console::read_argument(&rt, &mut errors, Tool::Judge, 2, &mut pack) else {
         return;
-    }
-    let n = console::bytes_read(card_read, &card);
-    let m = console::bytes_read(pack_read, &pack);
-    let mut report = console::report_room();
-    console::report_on_files(
-        &mut rt.stdout(),
-        &mut errors,
-        &card[..n],
-        &pack[..m],
-        &mut report,
-    );
+    };
+    let report = ReportOnFiles {
+        card: &card[..n],
+        pack: &pack[..m],
+    };
+    let mut room = console::room::<REPORT>();
+    console::write_answer(&mut rt.stdout(), &mut errors, &report, &mut room);
 }

@@ -2,16 +2,16 @@
 // says so on standard error and writes no report.
 #![tactic(auto)]
 
-use console::Tool;
+use console::{INPUT, REPORT, ReportOn, Tool};
 
 fn main(rt: HostRuntime) {
     let mut errors = rt.stderr();
-    let mut bytes = console::input_room();
+    let mut bytes = console::room::<INPUT>();
     let read = console::read_input(&mut rt.stdin(), &mut errors, Tool::Judge, &mut bytes);
-    if console::is_failed(read) {
+    let Some(n) = read else {
         return;
-    }
-    let n = console::bytes_read(read, &bytes);
-    let mut report = console::report_room();
-    console::report_on(&mut rt.stdout(), &mut errors, &bytes[..n], &mut report);
+    };
+    let report = ReportOn(&bytes[..n]);
+    let mut room = console::room::<REPORT>();
+    console::write_answer(&mut rt.stdout(), &mut errors, &report, &mut room);
 }
