@@ -1,34 +1,29 @@
 -- What only the code's contracts cite: what is known of the clauses opened so far. As long as each lies behind those before it, or is the highest
 -- once more, that is where they end; from the first that does not, it is the first place that breaks the rule.
-use Rattle.std.specs.Prelude.{ℕ, suc, ◌+◌, ◌≤◌, ◌<◌, min, ◌≡◌, Bool, true, false, ◌&&◌, ◌||◌, List, eqb, length, get_or}
+use Rattle.std.specs.Prelude.{ℕ, suc, ◌+◌, ◌≤◌, ◌<◌, min, ◌≡◌, Bool, true, false, not, ◌&&◌, ◌||◌, Option, None, List, eqb, length, get_or, replicate, slice_range, slice_set}
+use Rattle.std.specs.List.{list_any}
 use Rattle.units.specs.declared.Quadwords.{Quadwords}
 use Rattle.units.specs.Units.{quadwords, words, whole_quadwords, is_at_most}
 use Rattle.units.specs.Code.{quadwords_in_64}
 use Rattle.section.specs.declared.Clause.{Clause}
-use Rattle.section.specs.declared.Clause.TheVariants.{NoClause}
 use Rattle.section.specs.Rules.{clause_at}
 use Rattle.apart.specs.Apart.{start_of, length_of, behind, half_shared}
-use Rattle.apart.specs.declared.ranges.Range.{Range}
 use Rattle.apart.specs.declared.Seen.{Seen}
 use Rattle.apart.specs.declared.Seen.TheVariants.{Rising, Asked}
-
--- a clause's range as the code has it
-abbrev pub range_of : Clause → Range
-range_of k = record { start = start_of k; size = quadwords_in_64 (length_of k) }
 
 -- ---- the first place that breaks the rule
 
 -- the clause at p has nothing in part with an earlier one
-abbrev pub ApartFrom : (ℕ → Clause) → ℕ → Type 0
+abbrev pub ApartFrom : (ℕ → Option Clause) → ℕ → Type 0
 ApartFrom opens p = (q : ℕ) → q < p → half_shared (opens q) (opens p) ≡ false
 
 -- and ends by a limit, behind which there are no marks
-pub record Fit (limit : ℕ) (opens : ℕ → Clause) (p : ℕ) : Type 0 where
+pub record Fit (limit : ℕ) (opens : ℕ → Option Clause) (p : ℕ) : Type 0 where
   pub inside : (behind (opens p)).0 ≤ limit
   pub apart : ApartFrom opens p
 
 -- of n places, the first where that is not so; n where there is none
-pub record FirstUnfit (limit : ℕ) (opens : ℕ → Clause) (n r : ℕ) : Type 0 where
+pub record FirstUnfit (limit : ℕ) (opens : ℕ → Option Clause) (n r : ℕ) : Type 0 where
   pub at_most : r ≤ n
   pub fit_before : (q : ℕ) → q < r → Fit limit opens q
   pub unfit_there : r < n → Fit limit opens r → ⊥
@@ -47,7 +42,7 @@ FirstNotApart w e r = FirstUnfit (marked_in w) (clause_at w) (min (suc e) (quadw
 -- ---- what is known of the clauses so far
 
 -- a place before p has that range
-pub record OneIs (opens : ℕ → Clause) (p start end : ℕ) : Type 0 where
+pub record OneIs (opens : ℕ → Option Clause) (p start end : ℕ) : Type 0 where
   pub place : ℕ
   pub earlier : place < p
   pub starts : (start_of (opens place)).0 ≡ start
@@ -68,17 +63,17 @@ up_to (Rising behind highest) start end = Rising end start
 up_to (Asked r) start end = Asked r
 
 -- with one clause more: none is opened; its range is clear; it is not, and the first place is asked for
-pub data SeenWith (w : List ℕ) (e : ℕ) (k : Clause) (s : Seen) : Seen → Type 0 where
-  opens_none : k ≡ NoClause → SeenWith w e k s s
+pub data SeenWith (w : List ℕ) (e : ℕ) (k : Option Clause) (s : Seen) : Seen → Type 0 where
+  opens_none : k ≡ None → SeenWith w e k s s
   clear :
-      {r : Seen} → (k ≡ NoClause → ⊥) → is_clear s (start_of k) (quadwords_in_64 (behind k)) ≡ true → r ≡ up_to s (start_of k) (quadwords_in_64 (behind k))
+      {r : Seen} → (k ≡ None → ⊥) → is_clear s (start_of k) (quadwords_in_64 (behind k)) ≡ true → r ≡ up_to s (start_of k) (quadwords_in_64 (behind k))
       → SeenWith w e k s r
   turns :
-      {r : Quadwords} → (k ≡ NoClause → ⊥) → is_clear s (start_of k) (quadwords_in_64 (behind k)) ≡ false → FirstNotApart w e r.0
+      {r : Quadwords} → (k ≡ None → ⊥) → is_clear s (start_of k) (quadwords_in_64 (behind k)) ≡ false → FirstNotApart w e r.0
       → SeenWith w e k s (Asked r)
 
 -- what that says of the places before p: all ranges end there or before, and one is the highest
-pub record Risen (opens : ℕ → Clause) (p end highest : ℕ) : Type 0 where
+pub record Risen (opens : ℕ → Option Clause) (p end highest : ℕ) : Type 0 where
   pub below : (q : ℕ) → q < p → (behind (opens q)).0 ≤ end
   pub has_highest : 0 < end → OneIs opens p highest end
 
@@ -94,42 +89,31 @@ names (Asked r) p = eqb r.0 p.0
 -- ---- marks: one to a quadword. 0: no clause lies there; n + 1: one of n quadwords starts there; 1: it goes on there
 
 -- quadword j lies in a clause that a pair before p opens
-pub record Covered (opens : ℕ → Clause) (p j : ℕ) : Type 0 where
+pub record Covered (opens : ℕ → Option Clause) (p j : ℕ) : Type 0 where
   pub opener : ℕ
   pub earlier : opener < p
   pub from_start : (start_of (opens opener)).0 ≤ j
   pub to_end : j < (behind (opens opener)).0
 
 -- the marks are those of the clauses that the pairs before p open
-pub record Marked (opens : ℕ → Clause) (p : ℕ) (marks : List ℕ) : Type 0 where
+pub record Marked (opens : ℕ → Option Clause) (p : ℕ) (marks : List ℕ) : Type 0 where
   pub starts : (q : ℕ) → q < p → 0 < (length_of (opens q)).0 → get_or marks (start_of (opens q)).0 0 ≡ (length_of (opens q)).0 + 1
   pub goes_on : (q j : ℕ) → q < p → (start_of (opens q)).0 < j → j < (behind (opens q)).0 → get_or marks j 0 ≡ 1
   pub only : (j : ℕ) → (get_or marks j 0 ≡ 0 → ⊥) → Covered opens p j
 
--- a range of n quadwords from s on is marked where no mark stood
-pub record Filled (s n : ℕ) (before after : List ℕ) : Type 0 where
-  pub free : (j : ℕ) → s ≤ j → j < s + n → get_or before j 0 ≡ 0
-  pub first : get_or after s 0 ≡ n + 1
-  pub inside : (j : ℕ) → s < j → j < s + n → get_or after j 0 ≡ 1
-  pub below : (j : ℕ) → j < s → get_or after j 0 ≡ get_or before j 0
-  pub above : (j : ℕ) → s + n ≤ j → get_or after j 0 ≡ get_or before j 0
+-- the marks of a range of n quadwords
+abbrev pub marks_of : ℕ → List ℕ
+marks_of n = slice_set (replicate n 1) 0 (n + 1)
 
--- what is found of a range that lies in the marks: it is marked already, it was free and is marked now, or another lies there
-pub data Claimed (s n : ℕ) (before : List ℕ) : Bool → List ℕ → Type 0 where
-  again : get_or before s 0 ≡ n + 1 → Claimed s n before false before
-  claims : {after : List ℕ} → Filled s n before after → Claimed s n before false after
-  clashes :
-      (j : ℕ) {after : List ℕ} → s ≤ j → j < s + n → (get_or before j 0 ≡ 0 → ⊥) → (get_or before s 0 ≡ n + 1 → ⊥)
-      → Claimed s n before true after
+-- what is found of the quadwords of a range, by their marks: it is marked already, it was free and is marked now, or another lies there
+pub data Claimed (before : List ℕ) : Bool → List ℕ → Type 0 where
+  again : get_or before 0 0 ≡ length before + 1 → Claimed before false before
+  claims : list_any (λ m. not (eqb m 0)) before ≡ false → Claimed before false (marks_of (length before))
+  clashes : list_any (λ m. not (eqb m 0)) before ≡ true → (get_or before 0 0 ≡ length before + 1 → ⊥) → Claimed before true before
 
--- and of any range: one without quadwords leaves the marks, one that does not end by the limit is found wrong
+-- and of n quadwords from s on, which may not end by the limit
 pub data Found (limit s n : ℕ) (before : List ℕ) : Bool → List ℕ → Type 0 where
-  empty : n ≡ 0 → Found limit s n before false before
-  outside : {after : List ℕ} → limit < s + n → Found limit s n before true after
-  within : {r : Bool} {after : List ℕ} → 0 < n → s + n ≤ limit → Claimed s n before r after → Found limit s n before r after
-
--- before a search of n places there is room for the marks up to the limit, and none is made
-pub record Unmarked (w : List ℕ) (n limit : ℕ) (marks : List ℕ) : Type 0 where
-  pub in_words : n ≤ quadwords_in w
-  pub room : limit ≤ length marks
-  pub free : (j : ℕ) → get_or marks j 0 ≡ 0
+  outside : limit < s + n → Found limit s n before true before
+  within :
+      {r : Bool} {after : List ℕ} → s + n ≤ limit → Claimed (slice_range before s (s + n)) r (slice_range after s (s + n))
+      → ((j : ℕ) → (s ≤ j → s + n ≤ j) → get_or after j 0 ≡ get_or before j 0) → Found limit s n before r after

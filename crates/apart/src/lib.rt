@@ -7,7 +7,6 @@
 #![tactic(auto)]
 
 mod marks;
-mod ranges;
 
 ghost use Rattle.std.specs.Prelude.{◌≡◌};
 ghost use Rattle.apart.specs.Apart.{odd_fetch};
@@ -18,7 +17,7 @@ use units::Quadwords;
 
 // What is known of the clauses that are opened so far. As long as each lies behind those before it, or is the highest once more: the quadword
 // behind them all, and where the highest starts. Then the first place of the section whose clause is not apart from those before it.
-#[derive(Clone, Copy)]
+#[derive(Clone, Copy, Debug, PartialEq, Eq)]
 pub enum Seen {
     Rising {
         behind: Quadwords,
@@ -38,58 +37,29 @@ pub fn none_seen() -> Seen
 }
 
 // A fetch clause that starts at an odd quadword.
-pub fn is_odd_fetch(clause: Clause) -> bool
+#[tactic(auto, unfolding(crate::specs::Apart::odd_fetch))]
+pub fn is_odd_fetch(clause: Option<Clause>) -> bool
     ensures { result ≡ odd_fetch clause }
 {
     match clause {
-        Clause::NoClause => false,
-        Clause::AluClause {
-            start: _,
-            slots: _,
-            push_before: _,
-            mode0: _,
-            mode1: _,
-        } => false,
-        Clause::FetchClause {
-            start,
-            fetches: _,
-            kind: _,
-        } => start.0 % 2 == 1,
+        Some(Clause::Fetch { start, .. }) => start.0 % 2 == 1,
+        Some(Clause::Alu { .. }) | None => false,
     }
 }
 
-// What is known with one clause more, in a section that ends at pair `end`. (The search stands in two places so that it stays out of the
-// loop over pairs: a compiler takes a function in where it is called once.)
-pub fn seen_with(words: &[u32], end: Quadwords, seen: Seen, clause: Clause) -> Seen
+// What is known with one clause more, in a section that ends at pair `end`.
+pub fn seen_with(words: &[u32], end: Quadwords, seen: Seen, clause: Option<Clause>) -> Seen
     ensures { SeenWith words.now end.0 clause seen result }
 {
-    match clause {
-        Clause::NoClause => seen,
-        Clause::AluClause {
-            start,
-            slots,
-            push_before: _,
-            mode0: _,
-            mode1: _,
-        } => {
-            let behind = units::range_end(start, units::slots_length(slots));
-            if is_clear(seen, start, behind) {
-                return up_to(seen, start, behind);
-            }
-            Seen::Asked(marks::first_not_apart(words, end))
-        }
-        Clause::FetchClause {
-            start,
-            fetches,
-            kind: _,
-        } => {
-            let behind = units::range_end(start, units::fetches_length(fetches));
-            if is_clear(seen, start, behind) {
-                return up_to(seen, start, behind);
-            }
-            Seen::Asked(marks::first_not_apart(words, end))
-        }
+    let Some(clause) = clause else {
+        return seen;
+    };
+    let range = clause.range();
+    let behind = units::range_end(range.start, range.size);
+    if is_clear(seen, range.start, behind) {
+        return up_to(seen, range.start, behind);
     }
+    Seen::Asked(marks::first_not_apart(words, end))
 }
 
 // Whether a range needs no search.
@@ -98,13 +68,7 @@ fn is_clear(seen: Seen, start: Quadwords, end: Quadwords) -> bool
 {
     match seen {
         Seen::Rising { behind, highest } => {
-            if units::is_at_most(behind, start) {
-                return true;
-            }
-            if highest.0 != start.0 {
-                return false;
-            }
-            behind.0 == end.0
+            behind <= start || highest == start && behind == end
         }
         Seen::Asked(_) => true,
     }
@@ -115,10 +79,7 @@ fn up_to(seen: Seen, start: Quadwords, end: Quadwords) -> Seen
     ensures { result ≡ up_to seen start end }
 {
     match seen {
-        Seen::Rising {
-            behind: _,
-            highest: _,
-        } => Seen::Rising {
+        Seen::Rising { .. } => Seen::Rising {
             behind: end,
             highest: start,
         },
@@ -130,8 +91,8 @@ fn up_to(seen: Seen, start: Quadwords, end: Quadwords) -> Seen
 pub fn names(seen: Seen, place: Quadwords) -> bool
     ensures { result ≡ names seen place }
 {
-    if let Seen::Asked(first) = seen {
-        return first.0 == place.0;
+    match seen {
+        Seen::Rising { .. } => false,
+        Seen::Asked(first) => first == place,
     }
-    false
 }

@@ -1,4 +1,4 @@
--- What a pair is: by what the code tests, and that only pairs with bit 29 set open ALU clauses. Assumes nothing.
+-- Only pairs with bit 29 set open ALU clauses. Assumes nothing.
 use mathlib.Core.Path.{◌≡◌, refl, sym, ap, ◌∙◌}
 use mathlib.Core.Bool.{Bool, true, false, cond}
 use mathlib.Core.List.{List, [], ◌∷◌}
@@ -11,14 +11,9 @@ use Rattle.opcodes.specs.Table.{Row, lookup}
 use Rattle.opcodes.specs.Numbers.{cf, cf_alu_control, cf_control}
 use Rattle.section.specs.Control.{is_alu_opener, control_of}
 
-module _ (hi : ℕ) where
-  pub control_alu : is_alu_opener hi ≡ true → cf_alu_control (CF_ALU_INST of hi) ≡ control_of hi
-  unfolding control_of
-  control_alu h = rw h
-
-  pub control_cf : is_alu_opener hi ≡ false → cf_control (CF_INST of hi) ≡ control_of hi
-  unfolding control_of
-  control_cf h = rw h
+control_cf : (hi : ℕ) → is_alu_opener hi ≡ false → cf_control (CF_INST of hi) ≡ control_of hi
+unfolding control_of
+control_cf hi h = rw h
 
 -- ---- CF_ALU pairs are those with bit 29 set, and no others
 

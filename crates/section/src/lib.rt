@@ -67,6 +67,7 @@ impl Clause {
 }
 
 // What a pair is, by its high word.
+#[tactic(auto, unfolding(crate::specs::Control::control_of))]
 pub fn control_of(high: u32) -> Control
     ensures { result ≡ control_of high }
 {
@@ -77,6 +78,7 @@ pub fn control_of(high: u32) -> Control
 }
 
 // Rule 2.
+#[tactic(auto, using(crate::proofs::OfTests::length_told))]
 pub fn is_bad_length(words: &[u32], quads: Quadwords) -> bool
     ensures { result ≡ bad_length words.now quads }
 {
@@ -104,6 +106,7 @@ pub fn find_end(words: &[u32]) -> Quadwords
 }
 
 // Rule 4.
+#[tactic(auto, unfolding(crate::specs::Rules::is_not_taken))]
 pub fn is_not_taken(control: Control) -> bool
     ensures { result ≡ is_not_taken control }
 {
@@ -159,7 +162,7 @@ fn fetch_clause(low: u32, high: u32, kind: FetchKind) -> Clause
 }
 
 // Rule 6.
-#[tactic(auto, unfolding(crate::specs::Rules::bad_range))]
+#[tactic(auto, using(crate::proofs::OfTests::capped_outside), unfolding(crate::specs::Rules::bad_range))]
 pub fn is_bad_range(end: Quadwords, quads: Quadwords, clause: Option<Clause>) -> bool
     ensures { result ≡ bad_range end quads clause }
 {
