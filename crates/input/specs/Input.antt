@@ -1,25 +1,17 @@
 -- A card and a pack, one behind the other or each in a file, and what is answered to them: document 01, "What the judge reads", with the
 -- numbers 1 and 2 of "Numbers and what they mean". Every other number is the judge's.
-use Rattle.std.specs.Prelude.{ℕ, suc, ◌*◌, ◌≡◌, Bool, cond, List, [], eqb, length, drop}
+use Rattle.std.specs.Prelude.{ℕ, suc, ◌*◌, ◌≡◌, Bool, cond, Option, Some, None, Ok, Err, List, [], eqb, length, drop}
 use Rattle.std.proofs.Math.Option.{some}
 use Rattle.units.specs.Units.{slots}
 use Rattle.units.specs.declared.Quadwords.{Quadwords}
 use Rattle.checks.specs.declared.Place.TheVariants as place
-use Rattle.checks.specs.declared.Verdict.{Verdict}
-use Rattle.checks.specs.declared.Verdict.TheVariants.{Refused}
+use Rattle.checks.specs.Verdict.{Verdict, Refused}
 use Rattle.card.specs.Text.{behind, line_of}
-use Rattle.card.specs.Card.{card_lines, card_of}
-use Rattle.card.specs.Made.{test_of}
+use Rattle.card.specs.Card.{CardRead, Whole, card_lines, card_of}
+use Rattle.card.specs.Made.{CardTest, InRange, test_of}
 use Rattle.card.specs.declared.Build.{Build}
-use Rattle.card.specs.declared.Build.TheVariants as build
 use Rattle.card.specs.declared.Card.{Card}
-use Rattle.card.specs.declared.CardRead.{CardRead}
-use Rattle.card.specs.declared.CardRead.TheVariants as read
-use Rattle.card.specs.declared.CardTest.{CardTest}
-use Rattle.card.specs.declared.CardTest.TheVariants as test
 use Rattle.report.specs.Report.{report_bytes}
-use Rattle.report.specs.declared.ReportBuild.{ReportBuild}
-use Rattle.report.specs.declared.ReportBuild.TheVariants as report
 use Rattle.judge.specs.Judge.{judgement}
 use Rattle.input.specs.Words.{words_in}
 use Rattle.input.specs.declared.Judged.{Judged}
@@ -27,13 +19,8 @@ use Rattle.input.specs.declared.Judged.{Judged}
 -- ---- what is answered
 
 -- a build and a verdict, which the report is made of
-abbrev pub answer : ReportBuild → Verdict → Judged
+abbrev pub answer : Option Build → Verdict → Judged
 answer build verdict = record { build = build; verdict = verdict }
-
--- the card's build as the report shows it
-abbrev pub shown : Build → ReportBuild
-shown build.Production = report.Production
-shown build.Debug = report.Debug
 
 -- 1: a card line is missing, misspelt or out of range; the place is the first such line
 abbrev pub bad_line : ℕ → Verdict
@@ -51,8 +38,8 @@ right_length quads bytes = eqb bytes (8 * quads.0)
 
 -- Order: 1, 2, and then the judge's numbers. A card that a caller makes may have a line out of range; one that was read has none
 abbrev pub by_test : Card → List ℕ → CardTest → Verdict
-by_test card pack (test.BadLine n) = bad_line n
-by_test card pack test.InRange = cond (right_length card.quads (length pack)) (judgement card (words_in pack)) bad_length
+by_test card pack (Err bad) = bad_line bad.0
+by_test card pack InRange = cond (right_length card.quads (length pack)) (judgement card (words_in pack)) bad_length
 
 -- the verdict on a pack in bytes, by any card
 unfoldable pub pack_verdict : Card → List ℕ → Verdict
@@ -62,16 +49,16 @@ pack_verdict card pack = by_test card pack (test_of card)
 
 -- by a card that was read: its build, and the verdict on the pack
 abbrev pub judged_by : Card → List ℕ → Judged
-judged_by card pack = answer (shown card.build) (pack_verdict card pack)
+judged_by card pack = answer (Some card.build) (pack_verdict card pack)
 
 -- by no card: 1, with the build unknown
 abbrev pub without_card : ℕ → Judged
-without_card n = answer report.Unknown (bad_line n)
+without_card n = answer None (bad_line n)
 
 -- one behind the other, as the program reads them from standard input: what stands behind the card is the pack
 abbrev pub behind_card : List ℕ → CardRead → Judged
-behind_card input (read.Whole card taken) = judged_by card (drop taken input)
-behind_card input (read.BadLine n) = without_card n
+behind_card input (Whole card taken) = judged_by card (drop taken input)
+behind_card input (Err bad) = without_card bad.0
 
 -- what is answered to an input
 unfoldable pub judged_of : List ℕ → Judged
@@ -79,8 +66,8 @@ judged_of input = behind_card input (card_of input)
 
 -- each in a file of its own: in the card's nothing stands behind its lines, or else it is 1 at the line behind them
 abbrev pub beside_card : List ℕ → List ℕ → CardRead → Judged
-beside_card text pack (read.Whole card taken) = cond (eqb taken (length text)) (judged_by card pack) (without_card (suc card_lines))
-beside_card text pack (read.BadLine n) = without_card n
+beside_card text pack (Whole card taken) = cond (eqb taken (length text)) (judged_by card pack) (without_card (suc card_lines))
+beside_card text pack (Err bad) = without_card bad.0
 
 -- what is answered to a card's file and a pack's
 unfoldable pub judged_of_files : List ℕ → List ℕ → Judged

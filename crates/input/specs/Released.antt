@@ -2,7 +2,7 @@
 -- production, else no.
 use Rattle.std.specs.Prelude.{◌≡◌, ◌↔◌, ℕ, ◌*◌, length}
 use mathlib.Core.List.{List, ◌++◌, Memᴰ}
-use Rattle.checks.specs.declared.Verdict.TheVariants.{Accepted}
+use Rattle.checks.specs.Verdict.{Accepted}
 use Rattle.card.specs.Made.{Ranges}
 use Rattle.card.specs.Written.{written}
 use Rattle.card.specs.declared.Build.TheVariants.{Production}
