@@ -1,6 +1,6 @@
 -- The three forms of a fetch: which record the words of a fetch hold, and which words a record has. Document 02, request 2; the fields are
 -- those of the tables in Tex and Vtx of crate formats, and what is taken is rule 8's, in Fetches of crate fetches.
-use Rattle.std.specs.Prelude.{ℕ, Bool, cond, not, ◌&&◌}
+use Rattle.std.specs.Prelude.{ℕ, Bool, cond, not, ◌&&◌, List, [], ◌∷◌, Option, Some, None}
 use Rattle.bits.specs.Tables.{word_of, fits_table}
 use Rattle.opcodes.specs.declared.cf.FetchKind.{FetchKind}
 use Rattle.opcodes.specs.declared.cf.FetchKind.TheVariants.{Vertex, Texture}
@@ -13,7 +13,6 @@ use Rattle.fetch_codec.specs.declared.Fetch.{Fetch}
 use Rattle.fetch_codec.specs.declared.Fetch.TheVariants.{Tex, VtxGpr, VtxSem}
 use Rattle.fetch_codec.specs.declared.Clause.{Clause}
 use Rattle.fetch_codec.specs.declared.Clause.TheVariants as clause
-use Rattle.fetch_codec.specs.declared.words.FetchWords.{FetchWords}
 
 -- the kind of fetches in a clause: VTX and VTX_TC have the same
 abbrev pub kind_of : Clause → FetchKind
@@ -90,6 +89,10 @@ word2_of (Tex a b c) = word_of tex.word2_table (tex.word2_values c)
 word2_of (VtxGpr a b c) = word_of vtx.word2_table (vtx.word2_values c)
 word2_of (VtxSem a b c) = word_of vtx.word2_table (vtx.word2_values c)
 
+-- three words and a fourth that is 0, where they are a record's
+abbrev pub words_if : Bool → ℕ → ℕ → ℕ → Option (List ℕ)
+words_if is_record w0 w1 w2 = cond is_record (Some (w0 ∷ w1 ∷ w2 ∷ 0 ∷ [])) None
+
 -- what the encoder makes of a record
-abbrev pub words_of : Fetch → FetchWords
-words_of f = record { is_record = encodable f; word0 = word0_of f; word1 = word1_of f; word2 = word2_of f }
+abbrev pub words_of : Fetch → Option (List ℕ)
+words_of f = words_if (encodable f) (word0_of f) (word1_of f) (word2_of f)

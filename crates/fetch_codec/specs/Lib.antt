@@ -1,4 +1,3 @@
--- The root of what the contracts cite. Code is for the code alone; the others are what a reader has to believe.
+-- The root of what the contracts cite.
 pub mod Fetch
 pub mod Buffer
-pub mod Code
