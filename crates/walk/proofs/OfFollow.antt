@@ -5,6 +5,7 @@ use mathlib.Core.Path.{◌≡◌, refl, sym, ◌∙◌, ap, subst}
 use mathlib.Core.Bool.{Bool, true, false, cond, ◌&&◌, ◌||◌}
 use mathlib.Core.List.{List, ◌∷◌}
 use mathlib.Core.Logic.{◌⊎◌, inl, inr, ⊎_elim}
+use Rattle.std.specs.Prelude.{Ok, Err}
 use lib.ListN.{length, get_or, set}
 use lib.Seq.{get_or-set_same, get_or-set_other}
 use lib.Dec.{eqb, ltb, leb}
@@ -303,12 +304,12 @@ module _ (limit : ℕ) (code : ℕ → Flow) (p : ℕ) (s : Frames) (h : Held co
       stack-accepted e f q l k = rw (fits f q l, none_left code p s h e k)
 
 -- what the code's call of `follow` at p is told
-pub at_place : (limit : ℕ) (code : ℕ → Flow) (p : ℕ) (s : Frames) (rows : List Row) (behind : Quadwords) (i : Flow) (m : Followed)
-    → behind.0 ≡ p + 1
+pub at_place : (limit : ℕ) (code : ℕ → Flow) (p : ℕ) (s : Frames) (rows : List Row) (next : Quadwords) (i : Flow) (m : Followed)
+    → next.0 ≡ p + 1
     → i ≡ code p
-    → m ≡ followed limit i behind.0 s rows
+    → m ≡ followed limit i next.0 s rows
     → m ≡ followed limit (code p) (suc p) s rows
-at_place limit code p s rows behind i m b e h = h ∙ (λ j. followed limit (e j) ((b ∙ add-one p) j) s rows)
+at_place limit code p s rows next i m b e h = h ∙ (λ j. followed limit (e j) ((b ∙ add-one p) j) s rows)
 
 -- ---- the first pass's rows
 

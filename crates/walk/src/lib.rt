@@ -56,6 +56,7 @@ pub enum StackFault {
 }
 
 // What a pair does, by what it is and by its words.
+#[tactic(auto, unfolding(crate::specs::Flow::flow_of))]
 pub fn flow_of(control: Control, low: u32, high: u32) -> Flow
     ensures { result ≡ flow_of control low high }
 {
@@ -68,6 +69,7 @@ pub fn flow_of(control: Control, low: u32, high: u32) -> Flow
     }
 }
 
+#[tactic(auto, unfolding(crate::specs::Flow::flow_of))]
 fn branch_of(kind: Branch, low: u32, high: u32) -> Flow
     ensures { result ≡ flow_of (controls.Branch kind) low high }
 {
@@ -80,6 +82,7 @@ fn branch_of(kind: Branch, low: u32, high: u32) -> Flow
 
 // The first pass at a place: the step on "no", and whether either answer lacks a frame. `behind` is the next place, `s` the stack
 // before this one, and the rows are those of the places before.
+#[tactic(auto, unfolding(crate::specs::CodeRows::followed))]
 pub fn follow(
     flow: Flow,
     behind: Quadwords,
@@ -115,6 +118,7 @@ pub fn second_pass(words: &[u32], pairs: Quadwords, rows: &[Row]) -> Verdict
     Ok(())
 }
 
+#[tactic(auto, unfolding(checks::specs::Checks::first_broken, crate::specs::CodeRows::row_checks, crate::specs::CodeRows::row_stack, crate::specs::Rules::bad_target))]
 fn pair_verdict(words: &[u32], end: Quadwords, p: Quadwords, rows: &[Row]) -> Verdict
     ensures { result ≡ first_broken (row_checks (flow_at words.now) end.0 rows.now p.0) }
 {

@@ -27,6 +27,7 @@ pub(crate) fn row_at(rows: &[Row], place: Quadwords) -> Row
 }
 
 // Whether the stack at `place`, with `pops` frames M fewer, stood at the target.
+#[tactic(auto, unfolding(crate::specs::CodeRows::row_carries, crate::specs::CodeRows::same_row))]
 pub(crate) fn is_carried(rows: &[Row], place: Quadwords, pops: usize, target: Quadwords) -> bool
     ensures { result ≡ row_carries rows.now place.0 pops target.0 }
 {

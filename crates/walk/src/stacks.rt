@@ -17,6 +17,7 @@ fn is_next(p: Quadwords, place: Quadwords) -> bool
 }
 
 // ELSE needs M on top.
+#[tactic(auto, unfolding(crate::specs::CodeRows::row_else))]
 fn else_carried(rows: &[Row], p: Quadwords, pops: usize, target: Quadwords) -> bool
     ensures { result ≡ row_else rows.now p.0 pops target.0 }
 {
@@ -24,6 +25,7 @@ fn else_carried(rows: &[Row], p: Quadwords, pops: usize, target: Quadwords) -> b
 }
 
 // Whether a LOOP_END stands at `place`, with the frame of the loop that starts at p on top.
+#[tactic(auto, unfolding(crate::specs::CodeRows::row_ends, crate::specs::CodeRows::same_row))]
 fn ends_loop(words: &[u32], rows: &[Row], p: Quadwords, place: Quadwords) -> bool
     ensures { result ≡ row_ends (flow_at words.now) rows.now p.0 place.0 }
 {
@@ -32,6 +34,7 @@ fn ends_loop(words: &[u32], rows: &[Row], p: Quadwords, place: Quadwords) -> boo
 }
 
 // A LOOP_START at p goes to just behind its LOOP_END. No target that rule 18 lets pass is 0.
+#[tactic(auto, unfolding(crate::specs::CodeRows::row_starts))]
 fn starts_loop(words: &[u32], rows: &[Row], p: Quadwords, target: Quadwords) -> bool
     ensures { result ≡ row_starts (flow_at words.now) rows.now p.0 target.0 }
 {
@@ -39,6 +42,7 @@ fn starts_loop(words: &[u32], rows: &[Row], p: Quadwords, target: Quadwords) -> 
 }
 
 // A LOOP_END at p goes to just behind its LOOP_START, whose frame is on top here and there.
+#[tactic(auto, unfolding(crate::specs::CodeRows::row_back, crate::specs::CodeRows::same_row))]
 fn goes_back(rows: &[Row], p: Quadwords, target: Quadwords) -> bool
     ensures { result ≡ row_back rows.now p.0 target.0 }
 {
@@ -47,6 +51,7 @@ fn goes_back(rows: &[Row], p: Quadwords, target: Quadwords) -> bool
 }
 
 // Rule 19 at p, where `flow` stands.
+#[tactic(auto, unfolding(crate::specs::CodeRows::row_differs))]
 pub(crate) fn differ(words: &[u32], flow: Flow, p: Quadwords, rows: &[Row]) -> bool
     ensures { result ≡ row_differs (flow_at words.now) rows.now p.0 flow }
 {

@@ -9,6 +9,7 @@ use units::Quadwords;
 
 impl Frames {
     // One M more.
+    #[tactic(auto, unfolding(crate::specs::CodeRows::pushed))]
     pub(crate) fn push_mark(self, limit: usize) -> Result<Frames, StackFault>
         ensures { result ≡ pushed limit self }
     {
@@ -26,6 +27,7 @@ impl Frames {
     }
 
     // The frame of the loop that starts before `behind`.
+    #[tactic(auto, unfolding(crate::specs::CodeRows::entered))]
     pub(crate) fn enter_loop(self, limit: usize, behind: Quadwords) -> Result<Frames, StackFault>
         ensures { result ≡ entered limit behind.0 self }
     {
@@ -42,6 +44,7 @@ impl Frames {
     }
 
     // `pops` frames M fewer.
+    #[tactic(auto, unfolding(crate::specs::CodeRows::popped))]
     pub(crate) fn pop_marks(self, pops: usize) -> Result<Frames, StackFault>
         ensures { result ≡ popped pops self }
     {
@@ -59,6 +62,7 @@ impl Frames {
     }
 
     // A "yes" would pop `pops` frames M; a "no" leaves the stack as it is.
+    #[tactic(auto, unfolding(crate::specs::CodeRows::needing))]
     pub(crate) fn need_marks(self, pops: usize) -> Result<Frames, StackFault>
         ensures { result ≡ needing pops self }
     {
@@ -69,6 +73,7 @@ impl Frames {
     }
 
     // The same, with M on top either way.
+    #[tactic(auto, unfolding(crate::specs::CodeRows::needing_top))]
     pub(crate) fn need_top_mark(self, pops: usize) -> Result<Frames, StackFault>
         ensures { result ≡ needing_top pops self }
     {
@@ -79,6 +84,7 @@ impl Frames {
     }
 
     // The innermost loop's frame fewer: below it lies what stood at the loop's start.
+    #[tactic(auto, unfolding(crate::specs::CodeRows::ended))]
     pub(crate) fn end_loop(self, rows: &[Row]) -> Result<Frames, StackFault>
         ensures { result ≡ ended self rows.now }
     {

@@ -20,6 +20,7 @@ pub(crate) fn flow_at(words: &[u32], p: Quadwords) -> Flow
     flow_of(section::control_of(high), low, high)
 }
 
+#[tactic(auto, unfolding(crate::specs::Rules::is_loop_end))]
 pub(crate) fn is_loop_end_at(words: &[u32], p: Quadwords) -> bool
     ensures { result ≡ is_loop_end (flow_at words.now p.0) }
 {
@@ -34,6 +35,7 @@ pub(crate) fn is_loop_end_at(words: &[u32], p: Quadwords) -> bool
 }
 
 // Targets lie in the section and above p ..
+#[tactic(auto, unfolding(crate::specs::Rules::is_forward))]
 fn is_forward(end: Quadwords, p: Quadwords, target: Quadwords) -> bool
     ensures { result ≡ is_forward end.0 p.0 target.0 }
 {
@@ -41,6 +43,7 @@ fn is_forward(end: Quadwords, p: Quadwords, target: Quadwords) -> bool
 }
 
 // .. but for LOOP_END's, which is at most p.
+#[tactic(auto, unfolding(crate::specs::Rules::is_backward))]
 fn is_backward(end: Quadwords, p: Quadwords, target: Quadwords) -> bool
     ensures { result ≡ is_backward end.0 p.0 target.0 }
 {
@@ -48,6 +51,7 @@ fn is_backward(end: Quadwords, p: Quadwords, target: Quadwords) -> bool
 }
 
 // Rule 18 at p, where `flow` stands: BREAK and CONTINUE hit a LOOP_END.
+#[tactic(auto, unfolding(crate::specs::Rules::wrong_target))]
 pub(crate) fn is_wrong(words: &[u32], flow: Flow, end: Quadwords, p: Quadwords) -> bool
     ensures { result ≡ wrong_target end.0 (flow_at words.now) p.0 flow }
 {
