@@ -63,9 +63,15 @@ pub fn flow_of(control: Control, low: u32, high: u32) -> Flow
     match control {
         Control::NotTaken | Control::Nop | Control::Fetch(_) | Control::Export => Flow::Still,
         Control::Branch(kind) => branch_of(kind, low, high),
-        Control::Alu { pushes: true, pops: _ } => Flow::PushMark,
+        Control::Alu {
+            pushes: true,
+            pops: _,
+        } => Flow::PushMark,
         // ALU pops none: it leaves the stack as it is.
-        Control::Alu { pushes: false, pops } => Flow::PopMarks(pops),
+        Control::Alu {
+            pushes: false,
+            pops,
+        } => Flow::PopMarks(pops),
     }
 }
 
