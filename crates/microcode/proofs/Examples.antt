@@ -11,17 +11,18 @@ use Rattle.opcodes.specs.Numbers.{cf_alu, cf, cf_alu_control, cf_control}
 use Rattle.opcodes.specs.Alu.{op2, op3, op2_class, op3_class}
 use Rattle.microcode.specs.declared.Instruction.{Instruction}
 use Rattle.microcode.specs.declared.Instruction.TheVariants.{CfAlu, Cf, Export, Op2, Op3}
-use Rattle.microcode.specs.declared.Decoded.{Decoded}
-use Rattle.microcode.specs.declared.Decoded.TheVariants.{Outside, NotTaken, Taken}
-use Rattle.microcode.specs.declared.Encoded.TheVariants.{NoRecord, NoRoom, Done}
+use Rattle.std.specs.Prelude.{Ok, Err}
+use Rattle.microcode.specs.declared.DecodeError.TheVariants.{Outside, NotTaken}
+use Rattle.microcode.specs.declared.EncodeError.TheVariants.{NoRecord, NoRoom}
+use Rattle.microcode.specs.Answer.{Decoded, Done}
 use Rattle.microcode.specs.declared.Stream.{Stream}
 use Rattle.microcode.specs.declared.Stream.TheVariants.{ControlFlow, Alu}
 use Rattle.formats.specs.Cf as cfFormat
 use Rattle.formats.specs.CfAlu as cfAluFormat
 use Rattle.formats.specs.Export as exportFormat
 use Rattle.formats.specs.Alu as aluFormat
-use Rattle.microcode.specs.Pair.{opener_pair_of, plain_pair_of, cf_pair_of, op2_pair_of, op3_pair_of, alu_pair_of, encodable}
-use Rattle.microcode.specs.Buffer.{room, decode_of, decoded_verdict, encode_answer, write_answer, write_words, encode_words}
+use Rattle.microcode.specs.Pair.{cf_pair_of, alu_pair_of, encodable}
+use Rattle.microcode.specs.Buffer.{decode_of, decoded_verdict, encode_answer, encode_words}
 
 pub record Shown : Type 0 where
   pub form : String
@@ -43,88 +44,88 @@ abbrev refusal : ℕ → Shown
 refusal n = pair "refused" (n ∷ []) []
 
 abbrev shown : Stream → Decoded → Shown
-shown s Outside = refusal (verdict_number (decoded_verdict s Outside))
-shown s NotTaken = refusal (verdict_number (decoded_verdict s NotTaken))
-shown s (Taken i) = of_instruction i
+shown s (Err Outside) = refusal (verdict_number (decoded_verdict s (Err Outside)))
+shown s (Err NotTaken) = refusal (verdict_number (decoded_verdict s (Err NotTaken)))
+shown s (Ok i) = of_instruction i
 
 -- ---- the copy pack
 
 -- ALU at quadword 2, one slot, BARRIER
 copy_0 : shown ControlFlow (cf_pair_of 0x0000_0002 0xa000_0000) ≡ pair "CF_ALU" (2 ∷ 0 ∷ 0 ∷ 0 ∷ []) (0 ∷ 0 ∷ 0 ∷ 0 ∷ 0 ∷ 8 ∷ 0 ∷ 1 ∷ [])
-unfolding cf_pair_of opener_pair_of plain_pair_of cf_alu_control cf_control cf_alu cf
+unfolding cf_alu_control cf_control cf_alu cf
 copy_0 = refl
 
 -- NOP with the end bit
 copy_1 : shown ControlFlow (cf_pair_of 0x0000_0000 0x0020_0000) ≡ pair "CF" (0 ∷ []) (0 ∷ 0 ∷ 0 ∷ 0 ∷ 0 ∷ 0 ∷ 0 ∷ 1 ∷ 0 ∷ 0 ∷ 0 ∷ 0 ∷ [])
-unfolding cf_pair_of opener_pair_of plain_pair_of cf_alu_control cf_control cf_alu cf
+unfolding cf_alu_control cf_control cf_alu cf
 copy_1 = refl
 
 -- MOV R1.x, R0.x, the last of its group
 copy_2 : shown Alu (alu_pair_of 0x8000_0000 0x0020_0c90) ≡ pair "OP2" (0 ∷ 0 ∷ 0 ∷ 0 ∷ 0 ∷ 0 ∷ 0 ∷ 0 ∷ 0 ∷ 0 ∷ 1 ∷ []) (0 ∷ 0 ∷ 0 ∷ 0 ∷ 1 ∷ 0 ∷ 25 ∷ 0 ∷ 1 ∷ 0 ∷ 0 ∷ 0 ∷ [])
-unfolding alu_pair_of op2_pair_of op3_pair_of op2_class op3_class op2 op3
+unfolding op2_class op3_class op2 op3
 copy_2 = refl
 
 -- ---- the branch pack
 
 -- PUSH_BEFORE at quadword 4, one slot
 branch_0 : shown ControlFlow (cf_pair_of 0x0000_0004 0x2400_0000) ≡ pair "CF_ALU" (4 ∷ 0 ∷ 0 ∷ 0 ∷ []) (0 ∷ 0 ∷ 0 ∷ 0 ∷ 0 ∷ 9 ∷ 0 ∷ 0 ∷ [])
-unfolding cf_pair_of opener_pair_of plain_pair_of cf_alu_control cf_control cf_alu cf
+unfolding cf_alu_control cf_control cf_alu cf
 branch_0 = refl
 
 -- JUMP to 3, POP_COUNT 1
 branch_1 : shown ControlFlow (cf_pair_of 0x0000_0003 0x0500_0001) ≡ pair "CF" (3 ∷ []) (1 ∷ 0 ∷ 0 ∷ 0 ∷ 0 ∷ 0 ∷ 0 ∷ 0 ∷ 0 ∷ 10 ∷ 0 ∷ 0 ∷ [])
-unfolding cf_pair_of opener_pair_of plain_pair_of cf_alu_control cf_control cf_alu cf
+unfolding cf_alu_control cf_control cf_alu cf
 branch_1 = refl
 
 -- POP of one, to 3
 branch_2 : shown ControlFlow (cf_pair_of 0x0000_0003 0x0700_0001) ≡ pair "CF" (3 ∷ []) (1 ∷ 0 ∷ 0 ∷ 0 ∷ 0 ∷ 0 ∷ 0 ∷ 0 ∷ 0 ∷ 14 ∷ 0 ∷ 0 ∷ [])
-unfolding cf_pair_of opener_pair_of plain_pair_of cf_alu_control cf_control cf_alu cf
+unfolding cf_alu_control cf_control cf_alu cf
 branch_2 = refl
 
 -- PRED_SETE of R0.x and 248, the constant 0.0, which updates the mask and the predicate (branch-3 is copy-1)
 branch_4 : shown Alu (alu_pair_of 0x801f_0000 0x0000_100c) ≡ pair "OP2" (0 ∷ 0 ∷ 0 ∷ 0 ∷ 248 ∷ 0 ∷ 0 ∷ 0 ∷ 0 ∷ 0 ∷ 1 ∷ []) (0 ∷ 0 ∷ 1 ∷ 1 ∷ 0 ∷ 0 ∷ 32 ∷ 0 ∷ 0 ∷ 0 ∷ 0 ∷ 0 ∷ [])
-unfolding alu_pair_of op2_pair_of op3_pair_of op2_class op3_class op2 op3
+unfolding op2_class op3_class op2 op3
 branch_4 = refl
 
 -- ---- the loop pack
 
 -- LOOP_START_DX10 to 2
 loop_0 : shown ControlFlow (cf_pair_of 0x0000_0002 0x0300_0000) ≡ pair "CF" (2 ∷ []) (0 ∷ 0 ∷ 0 ∷ 0 ∷ 0 ∷ 0 ∷ 0 ∷ 0 ∷ 0 ∷ 6 ∷ 0 ∷ 0 ∷ [])
-unfolding cf_pair_of opener_pair_of plain_pair_of cf_alu_control cf_control cf_alu cf
+unfolding cf_alu_control cf_control cf_alu cf
 loop_0 = refl
 
 -- LOOP_END to 1 (loop-2 is copy-1)
 loop_1 : shown ControlFlow (cf_pair_of 0x0000_0001 0x0280_0000) ≡ pair "CF" (1 ∷ []) (0 ∷ 0 ∷ 0 ∷ 0 ∷ 0 ∷ 0 ∷ 0 ∷ 0 ∷ 0 ∷ 5 ∷ 0 ∷ 0 ∷ [])
-unfolding cf_pair_of opener_pair_of plain_pair_of cf_alu_control cf_control cf_alu cf
+unfolding cf_alu_control cf_control cf_alu cf
 loop_1 = refl
 
 -- ---- other forms
 
 -- TEX of 16 fetches: COUNT 15 stands in two pieces
 tex_16 : shown ControlFlow (cf_pair_of 0x0000_0010 0x0088_1c00) ≡ pair "CF" (16 ∷ []) (0 ∷ 0 ∷ 0 ∷ 7 ∷ 0 ∷ 1 ∷ 0 ∷ 0 ∷ 0 ∷ 1 ∷ 0 ∷ 0 ∷ [])
-unfolding cf_pair_of opener_pair_of plain_pair_of cf_alu_control cf_control cf_alu cf
+unfolding cf_alu_control cf_control cf_alu cf
 tex_16 = refl
 
 -- EXPORT_DONE of R1 to pixel output 0, components X, Y, Z, W, at the end
 export_done : shown ControlFlow (cf_pair_of 0x0000_8000 0x9420_0688) ≡ pair "export" (0 ∷ 0 ∷ 1 ∷ 0 ∷ 0 ∷ 0 ∷ []) (0 ∷ 1 ∷ 2 ∷ 3 ∷ 0 ∷ 0 ∷ 1 ∷ 0 ∷ 40 ∷ 0 ∷ 1 ∷ [])
-unfolding cf_pair_of opener_pair_of plain_pair_of cf_alu_control cf_control cf_alu cf
+unfolding cf_alu_control cf_control cf_alu cf
 export_done = refl
 
 -- MULADD R2.y, R0.x, R1.x, R3.z
 muladd : shown Alu (alu_pair_of 0x8000_2000 0x2042_0803) ≡ pair "OP3" (0 ∷ 0 ∷ 0 ∷ 0 ∷ 1 ∷ 0 ∷ 0 ∷ 0 ∷ 0 ∷ 0 ∷ 1 ∷ []) (3 ∷ 0 ∷ 2 ∷ 0 ∷ 16 ∷ 0 ∷ 2 ∷ 0 ∷ 1 ∷ 0 ∷ [])
-unfolding alu_pair_of op2_pair_of op3_pair_of op2_class op3_class op2 op3
+unfolding op2_class op3_class op2 op3
 muladd = refl
 
 -- ---- refused
 
 -- CALL_FS (19): 4; CF_ALU number 12: 4; OP2 number 26: 11; OP3 number 28: 11
 refused_numbers : (shown ControlFlow (cf_pair_of 0 0x0980_0000) ≡ refusal 4) × (shown ControlFlow (cf_pair_of 0 0x3000_0000) ≡ refusal 4) × (shown Alu (alu_pair_of 0 0x0000_0d00) ≡ refusal 11) × (shown Alu (alu_pair_of 0 0x0003_8000) ≡ refusal 11)
-unfolding cf_pair_of opener_pair_of plain_pair_of cf_alu_control cf_control cf_alu cf alu_pair_of op2_pair_of op3_pair_of op2_class op3_class op2 op3
+unfolding cf_alu_control cf_control cf_alu cf op2_class op3_class op2 op3
 refused_numbers = (refl, refl, refl, refl)
 
 -- three words hold a pair at 1 and none at 2 or at the largest start
 short : (shown ControlFlow (decode_of ControlFlow (9 ∷ 0 ∷ 0x0020_0000 ∷ []) (words 1)) ≡ pair "CF" (0 ∷ []) (0 ∷ 0 ∷ 0 ∷ 0 ∷ 0 ∷ 0 ∷ 0 ∷ 1 ∷ 0 ∷ 0 ∷ 0 ∷ 0 ∷ [])) × (shown ControlFlow (decode_of ControlFlow (9 ∷ 0 ∷ 0x0020_0000 ∷ []) (words 2)) ≡ refusal 2) × (shown Alu (decode_of Alu (9 ∷ 0 ∷ 0x0020_0000 ∷ []) (words 0xffff_ffff_ffff_ffff)) ≡ refusal 2)
-unfolding decode_of room cf_pair_of opener_pair_of plain_pair_of cf_alu_control cf_control cf_alu cf alu_pair_of op2_pair_of op3_pair_of op2_class op3_class op2 op3
+unfolding cf_alu_control cf_control cf_alu cf op2_class op3_class op2 op3
 short = (refl, refl, refl)
 
 -- records that the encoder refuses, since their words would read back as another form: CF 39, export 10, OP2 256, OP3 3
@@ -136,14 +137,14 @@ other_forms = (refl, refl, refl, refl)
 wide : Instruction
 wide = CfAlu (record { addr = quadwords 0x40_0000; kcache_bank0 = 0; kcache_bank1 = 0; kcache_mode0 = 0 }) (cfAluFormat.word1_of 0xa000_0000)
 
-wide_refused : (encode_answer wide (7 ∷ 7 ∷ 7 ∷ []) (words 1) ≡ NoRecord) × (encode_words wide (7 ∷ 7 ∷ 7 ∷ []) (words 1) ≡ 7 ∷ 7 ∷ 7 ∷ [])
-unfolding wide write_answer write_words room cf_alu_control cf_alu cfAluFormat.word0_table cfAluFormat.word1_table
+wide_refused : (encode_answer wide (7 ∷ 7 ∷ 7 ∷ []) (words 1) ≡ Err NoRecord) × (encode_words wide (7 ∷ 7 ∷ 7 ∷ []) (words 1) ≡ 7 ∷ 7 ∷ 7 ∷ [])
+unfolding wide cf_alu_control cf_alu cfAluFormat.word0_table cfAluFormat.word1_table
 wide_refused = (refl, refl)
 
 -- the copy pack's opener, written from word 1 of three on: the first stays; at 2 it does not fit
 opener : Instruction
 opener = CfAlu (cfAluFormat.word0_of 0x0000_0002) (cfAluFormat.word1_of 0xa000_0000)
 
-written : (encode_answer opener (7 ∷ 7 ∷ 7 ∷ []) (words 1) ≡ Done) × (encode_words opener (7 ∷ 7 ∷ 7 ∷ []) (words 1) ≡ 7 ∷ 2 ∷ 0xa000_0000 ∷ []) × (encode_answer opener (7 ∷ 7 ∷ 7 ∷ []) (words 2) ≡ NoRoom) × (encode_words opener (7 ∷ 7 ∷ 7 ∷ []) (words 2) ≡ 7 ∷ 7 ∷ 7 ∷ [])
-unfolding opener write_answer write_words room cf_alu_control cf_alu cfAluFormat.word0_table cfAluFormat.word1_table
+written : (encode_answer opener (7 ∷ 7 ∷ 7 ∷ []) (words 1) ≡ Done) × (encode_words opener (7 ∷ 7 ∷ 7 ∷ []) (words 1) ≡ 7 ∷ 2 ∷ 0xa000_0000 ∷ []) × (encode_answer opener (7 ∷ 7 ∷ 7 ∷ []) (words 2) ≡ Err NoRoom) × (encode_words opener (7 ∷ 7 ∷ 7 ∷ []) (words 2) ≡ 7 ∷ 7 ∷ 7 ∷ [])
+unfolding opener cf_alu_control cf_alu cfAluFormat.word0_table cfAluFormat.word1_table
 written = (refl, refl, refl, refl)

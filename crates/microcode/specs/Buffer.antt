@@ -21,11 +21,11 @@ use Rattle.microcode.specs.Answer.{Decoded, Encoded, Done}
 use Rattle.microcode.specs.Pair.{pair_of, number_taken, words_of}
 
 -- n words from start on lie wholly in the words
-unfoldable pub room : ℕ → List ℕ → ℕ → Bool
+abbrev pub room : ℕ → List ℕ → ℕ → Bool
 room n l start = leb (start + n) (length l)
 
 -- the pair at start, where it is wholly in the words
-unfoldable pub decode_of : Stream → List ℕ → Words → Decoded
+abbrev pub decode_of : Stream → List ℕ → Words → Decoded
 decode_of stream l start =
     cond (room 2 l start.0) (pair_of stream (get_or l start.0 0) (get_or l (start.0 + 1) 0)) (Err Outside)
 
@@ -42,12 +42,12 @@ decoded_from (Ok found) = Ok (record_found found)
 decoded_from (Err e) = Err e
 
 -- the words of a record at start, or none where it is no record: that is asked about before the room
-unfoldable pub write_answer : Option (List ℕ) → List ℕ → Words → Encoded
+abbrev pub write_answer : Option (List ℕ) → List ℕ → Words → Encoded
 write_answer None l start = Err NoRecord
 write_answer (Some ws) l start = cond (room (length ws) l start.0) Done (Err NoRoom)
 
 -- the whole buffer afterwards: all other words stay, and a refusal writes nothing
-unfoldable pub write_words : Option (List ℕ) → List ℕ → Words → List ℕ
+abbrev pub write_words : Option (List ℕ) → List ℕ → Words → List ℕ
 write_words None l start = l
 write_words (Some ws) l start = cond (room (length ws) l start.0) (take start.0 l ++ (ws ++ drop (start.0 + length ws) l)) l
 
@@ -91,12 +91,12 @@ pub record Answers (v : Verdict) (n : ℕ) : Type 0 where
   pub slot : verdict_slot v ≡ 0
 
 -- 2 if the pair isn't wholly in the words, else 4 or 11 if the number isn't taken, and otherwise always a record
-unfoldable pub decode_number : Stream → List ℕ → Words → ℕ
+abbrev pub decode_number : Stream → List ℕ → Words → ℕ
 decode_number stream l start =
     cond (room 2 l start.0) (cond (number_taken stream (get_or l (start.0 + 1) 0)) 0 (not_taken stream)) 2
 
 -- 21 if they are no record's words, else 20 if they don't fit at the start
-unfoldable pub write_number : Option (List ℕ) → List ℕ → Words → ℕ
+abbrev pub write_number : Option (List ℕ) → List ℕ → Words → ℕ
 write_number None l start = 21
 write_number (Some ws) l start = cond (room (length ws) l start.0) 0 20
 

@@ -20,30 +20,30 @@ use Rattle.microcode.specs.Answer.{Decoded}
 -- ---- from words
 
 -- an ALU clause opener
-unfoldable pub opener_pair_of : ℕ → ℕ → Decoded
+abbrev pub opener_pair_of : ℕ → ℕ → Decoded
 opener_pair_of lo hi =
     cond (is_taken (cf_alu_control (CF_ALU_INST of hi))) (Ok (CfAlu (cf_alu.word0_of lo) (cf_alu.word1_of hi))) (Err NotTaken)
 
 -- any other control-flow pair; exports have a layout of their own
-unfoldable pub plain_pair_of : ℕ → ℕ → Decoded
+abbrev pub plain_pair_of : ℕ → ℕ → Decoded
 plain_pair_of lo hi =
     cond (is_export (cf_control (CF_INST of hi))) (Ok (Export (export.word0_of lo) (export.word1_of hi)))
     (cond (is_taken (cf_control (CF_INST of hi))) (Ok (Cf (cf.word0_of lo) (cf.word1_of hi))) (Err NotTaken))
 
 -- an ALU clause opener has high bit 29 set
-unfoldable pub cf_pair_of : ℕ → ℕ → Decoded
+abbrev pub cf_pair_of : ℕ → ℕ → Decoded
 cf_pair_of lo hi = cond (eqb (CF_ALU_MARK of hi) 1) (opener_pair_of lo hi) (plain_pair_of lo hi)
 
-unfoldable pub op2_pair_of : ℕ → ℕ → Decoded
+abbrev pub op2_pair_of : ℕ → ℕ → Decoded
 op2_pair_of lo hi =
     cond (class.is_taken (op2_class (OP2_INST of hi))) (Ok (Op2 (alu.word0_of lo) (alu.op2_of hi))) (Err NotTaken)
 
-unfoldable pub op3_pair_of : ℕ → ℕ → Decoded
+abbrev pub op3_pair_of : ℕ → ℕ → Decoded
 op3_pair_of lo hi =
     cond (class.is_taken (op3_class (OP3_INST of hi))) (Ok (Op3 (alu.word0_of lo) (alu.op3_of hi))) (Err NotTaken)
 
 -- OP2 if high bits 17:15 are 0, else OP3
-unfoldable pub alu_pair_of : ℕ → ℕ → Decoded
+abbrev pub alu_pair_of : ℕ → ℕ → Decoded
 alu_pair_of lo hi = cond (eqb (OP3_MARK of hi) 0) (op2_pair_of lo hi) (op3_pair_of lo hi)
 
 abbrev pub pair_of : Stream → ℕ → ℕ → Decoded
@@ -52,11 +52,11 @@ pair_of stream.Alu lo hi = alu_pair_of lo hi
 
 -- ---- the number of a pair is taken, by its high word. `pair_of` gives a record exactly then (`pair_number`, proofs/OfNumbers.antt)
 
-unfoldable pub cf_number_taken : ℕ → Bool
+abbrev pub cf_number_taken : ℕ → Bool
 cf_number_taken hi =
     cond (eqb (CF_ALU_MARK of hi) 1) (is_taken (cf_alu_control (CF_ALU_INST of hi))) (is_taken (cf_control (CF_INST of hi)))
 
-unfoldable pub alu_number_taken : ℕ → Bool
+abbrev pub alu_number_taken : ℕ → Bool
 alu_number_taken hi =
     cond (eqb (OP3_MARK of hi) 0) (class.is_taken (op2_class (OP2_INST of hi))) (class.is_taken (op3_class (OP3_INST of hi)))
 

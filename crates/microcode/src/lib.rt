@@ -100,7 +100,11 @@ pub fn encode(i: Instruction, out: &mut [u32], start: Words) -> Result<(), Encod
 }
 
 // The same with the words of a record that the caller knows the form of, if it is one.
-pub fn write<const N: usize>(words: Option<[u32; N]>, out: &mut [u32], start: Words) -> Result<(), EncodeError>
+pub fn write<const N: usize>(
+    words: Option<[u32; N]>,
+    out: &mut [u32],
+    start: Words,
+) -> Result<(), EncodeError>
     ensures value { result ≡ write_answer words.entry out.old start }
     ensures out_after { out.new ≡ write_words words.entry out.old start }
     ensures answers { Answers (encoded_verdict result) (write_number words.entry out.old start) }

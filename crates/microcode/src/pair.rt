@@ -62,9 +62,15 @@ pub(crate) fn record(found: FoundPair) -> Instruction
     ensures { result ≡ record_found found }
 {
     match found {
-        FoundPair::CfAlu(low, high) => Instruction::CfAlu(CfAluWord0::read(low), CfAluWord1::read(high)),
+        FoundPair::CfAlu(low, high) => Instruction::CfAlu(
+            CfAluWord0::read(low),
+            CfAluWord1::read(high),
+        ),
         FoundPair::Cf(low, high) => Instruction::Cf(CfWord0::read(low), CfWord1::read(high)),
-        FoundPair::Export(low, high) => Instruction::Export(CfAllocExportWord0::read(low), CfAllocExportWord1Swiz::read(high)),
+        FoundPair::Export(low, high) => Instruction::Export(
+            CfAllocExportWord0::read(low),
+            CfAllocExportWord1Swiz::read(high),
+        ),
         FoundPair::Op2(low, high) => Instruction::Op2(AluWord0::read(low), AluWord1Op2::read(high)),
         FoundPair::Op3(low, high) => Instruction::Op3(AluWord0::read(low), AluWord1Op3::read(high)),
     }

@@ -43,7 +43,11 @@ pub fn of_cf(a: CfWord0, b: CfWord1) -> Option<[u32; 2]>
     ensures { result ≡ words_of (form.Cf a b) }
 {
     let control = opcodes::cf::cf_control(b.cf_inst);
-    of_words(a, b, opcodes::cf::is_taken(control) & !opcodes::cf::is_export(control))
+    of_words(
+        a,
+        b,
+        opcodes::cf::is_taken(control) & !opcodes::cf::is_export(control),
+    )
 }
 
 pub fn of_export(a: CfAllocExportWord0, b: CfAllocExportWord1Swiz) -> Option<[u32; 2]>
