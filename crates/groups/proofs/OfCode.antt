@@ -2,15 +2,10 @@
 use mathlib.Core.Path.{◌≡◌, refl, sym, ap, ◌∙◌}
 use mathlib.Core.Bool.{Bool, true, false, not}
 use Prim.Native.Nat.{ℕ, max}
+use Rattle.std.specs.Prelude.{Option, Some, None}
 use Rattle.units.specs.declared.Slots.{Slots}
 use Rattle.units.specs.Units.{slots}
-use borrow.Author.Tests.{not-true, not-false}
-use Rattle.groups.specs.declared.counts.Count.{Count}
-use Rattle.groups.specs.declared.counts.Count.TheVariants.{Nothing, One, Several}
-use Rattle.groups.specs.declared.First.{First}
-use Rattle.groups.specs.declared.First.TheVariants.{Nowhere, At}
 use Rattle.formats.specs.Fields.{◌of◌, BANK_SWIZZLE, DST_CHAN}
-use Rattle.groups.specs.declared.GroupFault.TheVariants.{Clean, Broken}
 use Rattle.opcodes.specs.declared.alu.Class.{Class}
 use Rattle.opcodes.specs.Alu as alu
 use Rattle.grants.specs.declared.Limits.{Limits}
@@ -18,35 +13,11 @@ use Rattle.grants.specs.Grants.{all_granted}
 use Rattle.instructions.specs.Instruction.{class_of, bad_number, bad_field, has_relative, literals, named}
 use Rattle.groups.specs.declared.Issues.{Issues}
 use Rattle.groups.specs.declared.Seen.{Seen}
-use Rattle.groups.specs.Code.{Taken, unit_for, unit_of, bad_unit, occupied, is_uneven, counted_if, one_more, together, or_here, next_issues, bad_issues, next_seen, first_fault, fault_of}
+use Rattle.groups.specs.Code.{Taken, unit_for, unit_of, bad_unit, occupied, is_uneven, or_here, next_issues, bad_issues, next_seen, Clean, Broken, first_fault, fault_of}
 
-pub not_counted : (b : Bool) (n : Count) → not b ≡ true → n ≡ counted_if b n
-not_counted b n h = rw (not-true b h)
-
-pub counted_more : (b : Bool) (n told : Count) → not b ≡ false → n ≡ told → one_more told ≡ counted_if b n
-counted_more b n told h e = rw (not-false b h, e)
-
-module _ (x : First) (j : Slots) (b : Bool) where
-  pub here : x ≡ Nowhere → b ≡ true → At j ≡ or_here x j b
-  unfolding or_here
-  here e h = rw (e, h)
-
-  pub not_here : x ≡ Nowhere → b ≡ false → Nowhere ≡ or_here x j b
-  unfolding or_here
-  not_here e h = rw (e, h)
-
-  pub earlier : (k : Slots) → x ≡ At k → At k ≡ or_here x j b
-  unfolding or_here
-  earlier k e = rw e
-
-pub with_one_lem : (a b r : Count) → a ≡ One → r ≡ counted_if true b → r ≡ together a b
-unfolding together one_more
-with_one_lem a b r e f = f ∙ by b ∙ ap (λ (n : Count). together n b) (sym e)
-  where
-    by : (b : Count) → counted_if true b ≡ together One b
-    by Nothing = refl
-    by One = refl
-    by Several = refl
+-- it does not, and none did before
+pub not_here : (j : Slots) (b : Bool) → b ≡ false → None ≡ or_here None j b
+not_here j b h = rw h
 
 -- ---- one instruction more, from what was asked of it
 
@@ -67,7 +38,7 @@ module _ (limits : Limits) (j : Slots) (first l h : ℕ) (s : Seen) {k : Class} 
   unit_of_lem = q.unit_is ∙ (λ i. unit_for s.taken (q.class_is i).unit (q.chan_is i))
 
   pub next_seen_lem :
-      {literal : ℕ} {numbers fields units grants : First} {after : Taken} {issues : Issues} {wrong-field relative granted : Bool}
+      {literal : ℕ} {numbers fields units grants : Option Slots} {after : Taken} {issues : Issues} {wrong-field relative granted : Bool}
       {own : ℕ}
       → own ≡ literals l h
       → literal ≡ max s.literals own
@@ -96,32 +67,11 @@ module _ (limits : Limits) (j : Slots) (first l h : ℕ) (s : Seen) {k : Class} 
             i;
       }
 
--- ---- the group's fault, rule by rule
+-- ---- a group that breaks nothing
 
 module _ (s : Seen) (m : ℕ) (may_kill : Bool) where
-  pub breaks_11 : {j : Slots} → s.numbers ≡ At j → Broken 11 j ≡ fault_of s m may_kill
+  pub breaks-none :
+      s.numbers ≡ None → s.fields ≡ None → s.units ≡ None → bad_issues s.issues m may_kill ≡ false → s.grants ≡ None
+      → Clean ≡ fault_of s m may_kill
   unfolding fault_of first_fault
-  breaks_11 a = rw a
-
-  module _ (a : s.numbers ≡ Nowhere) where
-    pub breaks-12 : {j : Slots} → s.fields ≡ At j → Broken 12 j ≡ fault_of s m may_kill
-    unfolding fault_of first_fault
-    breaks-12 b = rw (a, b)
-
-    module _ (b : s.fields ≡ Nowhere) where
-      pub breaks-13 : {j : Slots} → s.units ≡ At j → Broken 13 j ≡ fault_of s m may_kill
-      unfolding fault_of first_fault
-      breaks-13 d = rw (a, b, d)
-
-      module _ (d : s.units ≡ Nowhere) {bad : Bool} (e : bad ≡ bad_issues s.issues m may_kill) where
-        pub breaks-14 : bad ≡ true → Broken 14 (slots 0) ≡ fault_of s m may_kill
-        unfolding fault_of first_fault
-        breaks-14 h = rw (a, b, d, sym e ∙ h)
-
-        pub breaks-15 : {j : Slots} → bad ≡ false → s.grants ≡ At j → Broken 15 j ≡ fault_of s m may_kill
-        unfolding fault_of first_fault
-        breaks-15 h g = rw (a, b, d, sym e ∙ h, g)
-
-        pub breaks-none : bad ≡ false → s.grants ≡ Nowhere → Clean ≡ fault_of s m may_kill
-        unfolding fault_of first_fault
-        breaks-none h g = rw (a, b, d, sym e ∙ h, g)
+  breaks-none a b d e g = rw (a, b, d, e, g)

@@ -4,6 +4,7 @@ use mathlib.Core.Logic.{⊎_elim}
 use mathlib.Core.Bool.{Bool, true, false, cond, not, ◌&&◌, ◌||◌, or-true, or-false, false≢true, true≢false}
 use mathlib.Core.List.{List, [], ◌∷◌, ◌++◌, Memᴰ}
 use Prim.Native.Nat.{ℕ, zero, suc, ◌+◌, ◌<◌, ◌≤◌}
+use Rattle.std.specs.Prelude.{Option, Some, None, Err}
 use native.Mathlib.Nat.{add-zero}
 use native.Mathlib.Omega.{arith}
 use lib.Dec.{eqb, ltb, eqb-zero-suc, eqb-suc-zero, eqb-suc-suc}
@@ -12,8 +13,7 @@ use Rattle.units.specs.declared.Quadwords.{Quadwords}
 use Rattle.units.specs.declared.Slots.{Slots}
 use Rattle.units.specs.Units.{slots, slot_behind}
 use Rattle.checks.specs.declared.Place.TheVariants.{Quadword}
-use Rattle.checks.specs.declared.Verdict.{Verdict}
-use Rattle.checks.specs.declared.Verdict.TheVariants.{Accepted, Refused}
+use Rattle.checks.specs.Verdict.{Verdict, Accepted, Refused}
 use Rattle.checks.specs.Checks.{Check, check, first_broken, below}
 use Rattle.checks.proofs.OfChecks.{and_then_lem, joined, first_clean, rest_clean, right_clean, below_each}
 use Rattle.formats.specs.Fields.{◌of◌, BANK_SWIZZLE}
@@ -24,12 +24,8 @@ use Rattle.grants.specs.declared.Limits.{Limits}
 use Rattle.grants.specs.Grants.{Name, granted, all_granted}
 use Rattle.grants.proofs.OfGrants.{each_granted}
 use Rattle.instructions.specs.Instruction.{class_of, bad_number, bad_field, has_relative, named}
-use Rattle.groups.specs.declared.First.{First}
-use Rattle.groups.specs.declared.First.TheVariants.{Nowhere, At}
-use Rattle.groups.specs.declared.GroupFault.{GroupFault}
-use Rattle.groups.specs.declared.GroupFault.TheVariants.{Clean, Broken}
 use Rattle.groups.specs.Group.{PerInstruction, count_below, any_below, literals_below, units_before, unit_at, bad_unit_at, issued, bad_issue, each_of, rule_checks}
-use Rattle.groups.specs.Code.{taken_by, taken_before, occupied, is_uneven, any_uneven, any_reduction, count_of, one_more, counted_if, together, is_one, is_several, or_here, first_below, next_issues, issues_of, bad_issues, none_seen, next_seen, seen_of, first_fault, fault_of}
+use Rattle.groups.specs.Code.{taken_by, taken_before, occupied, is_uneven, any_uneven, any_reduction, count_of, one_if, together, is_one, is_several, or_here, first_below, next_issues, issues_of, bad_issues, none_seen, next_seen, seen_of, Outcome, Clean, Broken, first_fault, fault_of}
 use Rattle.groups.specs.Code as code
 use Rattle.groups.proofs.OfBelow.{last_or_below}
 use Rattle.groups.proofs.OfUnits.{unit_at_lem, bad_at}
@@ -37,36 +33,34 @@ use Rattle.groups.proofs.OfReduction.{same_reduction}
 
 -- ---- counts
 
-pub counted : (b : Bool) (n : ℕ) → counted_if b (count_of n) ≡ count_of (cond b (suc n) n)
-unfolding count_of one_more
-counted false n = refl
-counted true zero = refl
-counted true (suc zero) = refl
-counted true (suc (suc n)) = refl
-
 pub counted_together : (a b : ℕ) → together (count_of a) (count_of b) ≡ count_of (a + b)
-unfolding count_of together
+unfolding count_of
 counted_together zero b = let e : b ≡ zero + b = omega arith in ap count_of e
 counted_together (suc zero) zero = refl
 counted_together (suc zero) (suc zero) = refl
 counted_together (suc zero) (suc (suc b)) = let e : suc (suc (suc b)) ≡ suc zero + suc (suc b) = omega arith in ap count_of e
 counted_together (suc (suc a)) b = let e : suc (suc (a + b)) ≡ suc (suc a) + b = omega arith in ap count_of e
 
+pub counted : (b : Bool) (n : ℕ) → together (count_of n) (one_if b) ≡ count_of (cond b (suc n) n)
+unfolding count_of
+counted true n = counted_together n 1 ∙ (let e : n + 1 ≡ suc n = omega arith in ap count_of e)
+counted false n = counted_together n 0 ∙ (let e : n + 0 ≡ n = omega arith in ap count_of e)
+
 pub counts_one : (n : ℕ) → is_one (count_of n) ≡ eqb n 1
-unfolding is_one count_of
+unfolding count_of
 counts_one zero = sym (eqb-zero-suc 0)
 counts_one (suc zero) = refl
 counts_one (suc (suc n)) = sym (eqb-suc-suc (suc n) 0 ∙ eqb-suc-zero n)
 
 pub counts_several : (n : ℕ) → is_several (count_of n) ≡ ltb 1 n
-unfolding is_several count_of
+unfolding count_of
 counts_several zero = refl
 counts_several (suc zero) = refl
 counts_several (suc (suc n)) = sym (lt-ltb 1 (suc (suc n)) (omega arith))
 
 -- two counts, of which one more at most
 counted_one :
-    (x y : Bool) → (x && y) ≡ false → (a b : ℕ) → counted_if (x || y) (count_of (a + b)) ≡ count_of (cond x (suc a) a + cond y (suc b) b)
+    (x y : Bool) → (x && y) ≡ false → (a b : ℕ) → together (count_of (a + b)) (one_if (x || y)) ≡ count_of (cond x (suc a) a + cond y (suc b) b)
 counted_one true true h a b = absurd (true≢false h)
 counted_one true false h a b = counted true (a + b) ∙ (let e : suc (a + b) ≡ suc a + b = omega arith in ap count_of e)
 counted_one false y h a b = counted y (a + b) ∙ ap count_of (by y)
@@ -123,45 +117,45 @@ module _ (limits : Limits) (lo hi : PerInstruction) where
 
 -- ---- the verdict of a fault
 
-abbrev pub answer : Quadwords → Slots → GroupFault → Verdict
+abbrev pub answer : Quadwords → Slots → Outcome → Verdict
 answer place g Clean = Accepted
-answer place g (Broken r j) = Refused r (Quadword place) (slot_behind g j)
+answer place g (Err fault) = Refused fault.rule (Quadword place) (slot_behind g fault.behind)
 
 -- no instruction breaks it
-pub first_none : (f : ℕ → Bool) (m : ℕ) → first_below f m ≡ Nowhere → (j : ℕ) → j < m → f j ≡ false
-unfolding first_below or_here
+pub first_none : (f : ℕ → Bool) (m : ℕ) → first_below f m ≡ None → (j : ℕ) → j < m → f j ≡ false
+unfolding first_below
 first_none f zero h j l = absurd (omega arith)
 first_none f (suc m) h j l =
     let r = by (first_below f m) (f m) h in
     ⊎_elim (λ e. ap f e ∙ r.1) (λ k. first_none f m r.0 j k) (last_or_below l)
   where
-    by : (x : First) (b : Bool) → or_here x (slots m) b ≡ Nowhere → (x ≡ Nowhere) × (b ≡ false)
-    by Nowhere false e = (refl, refl)
-    by Nowhere true e = absurd (false≢true (cc))
-    by (At k) b e = absurd (false≢true (cc))
+    by : (x : Option Slots) (b : Bool) → or_here x (slots m) b ≡ None → (x ≡ None) × (b ≡ false)
+    by None false e = (refl, refl)
+    by None true e = absurd (false≢true (cc))
+    by (Some k) b e = absurd (false≢true (cc))
 
 module _ (place : Quadwords) (g : Slots) where
   -- a rule that was asked of each instruction
   each_answer :
       (r : ℕ) (f : ℕ → Bool) (m : ℕ)
       → first_broken (each_of r place g f m) ≡ answer place g (first_fault r (first_below f m) Clean)
-  unfolding each_of below first_broken first_below first_fault or_here
+  unfolding each_of below first_broken first_below first_fault
   each_answer r f zero = refl
   each_answer r f (suc m) =
       joined (each_of r place g f m) (check r (Quadword place) (slot_behind g (slots m)) (f m) ∷ [])
       ∙ ap (λ (v : Verdict). and_then_lem v (first_broken (check r (Quadword place) (slot_behind g (slots m)) (f m) ∷ []))) (each_answer r f m)
       ∙ by (first_below f m) (f m)
     where
-      by : (x : First) (b : Bool)
+      by : (x : Option Slots) (b : Bool)
           → and_then_lem (answer place g (first_fault r x Clean)) (cond b (Refused r (Quadword place) (slot_behind g (slots m))) Accepted)
           ≡ answer place g (first_fault r (or_here x (slots m) b) Clean)
-      by Nowhere true = refl
-      by Nowhere false = refl
-      by (At k) b = refl
+      by None true = refl
+      by None false = refl
+      by (Some k) b = refl
 
   -- and the rules behind it, which count only where it is kept
   each_then :
-      (r : ℕ) (f : ℕ → Bool) (m : ℕ) (cs : List Check) (rest : GroupFault)
+      (r : ℕ) (f : ℕ → Bool) (m : ℕ) (cs : List Check) (rest : Outcome)
       → (((j : ℕ) → j < m → f j ≡ false) → first_broken cs ≡ answer place g rest)
       → first_broken (each_of r place g f m ++ cs) ≡ answer place g (first_fault r (first_below f m) rest)
   unfolding first_fault
@@ -171,13 +165,13 @@ module _ (place : Quadwords) (g : Slots) where
       ∙ by (first_below f m) refl
     where
       by :
-          (x : First) → first_below f m ≡ x
+          (x : Option Slots) → first_below f m ≡ x
           → and_then_lem (answer place g (first_fault r x Clean)) (first_broken cs) ≡ answer place g (first_fault r x rest)
-      by Nowhere e = h (first_none f m e)
-      by (At k) e = refl
+      by None e = h (first_none f m e)
+      by (Some k) e = refl
 
   issue_then :
-      (b : Bool) (cs : List Check) (rest : GroupFault) → first_broken cs ≡ answer place g rest
+      (b : Bool) (cs : List Check) (rest : Outcome) → first_broken cs ≡ answer place g rest
       → first_broken (check 14 (Quadword place) g b ∷ cs) ≡ answer place g (cond b (Broken 14 (slots 0)) rest)
   unfolding first_broken
   issue_then true cs rest h = ap (λ (n : ℕ). Refused 14 (Quadword place) (slots n)) (sym (add-zero g.0))
@@ -225,30 +219,30 @@ module _ (place : Quadwords) (g : Slots) (limits : Limits) (may_kill : Bool) (lo
 
 -- ---- a fault shows within the group
 
-abbrev FirstIn : ℕ → First → Type 0
-FirstIn m Nowhere = Unit {0}
-FirstIn m (At k) = k.0 < m
+abbrev FirstIn : ℕ → Option Slots → Type 0
+FirstIn m None = Unit {0}
+FirstIn m (Some k) = k.0 < m
 
 first_in : (f : ℕ → Bool) (m : ℕ) → FirstIn m (first_below f m)
-unfolding first_below or_here
+unfolding first_below
 first_in f zero = tt
 first_in f (suc m) = by (first_below f m) (f m) (first_in f m)
   where
-    by : (x : First) (b : Bool) → FirstIn m x → FirstIn (suc m) (or_here x (slots m) b)
-    by Nowhere true h = omega arith
-    by Nowhere false h = tt
-    by (At k) b h = omega arith
+    by : (x : Option Slots) (b : Bool) → FirstIn m x → FirstIn (suc m) (or_here x (slots m) b)
+    by None true h = omega arith
+    by None false h = tt
+    by (Some k) b h = omega arith
 
-abbrev pub FaultIn : ℕ → GroupFault → Type 0
+abbrev pub FaultIn : ℕ → Outcome → Type 0
 FaultIn m Clean = Unit {0}
-FaultIn m (Broken r j) = j.0 ≤ m
+FaultIn m (Err fault) = fault.behind.0 ≤ m
 
-fault_then : (m : ℕ) (r : ℕ) (x : First) (rest : GroupFault) → FirstIn m x → FaultIn m rest → FaultIn m (first_fault r x rest)
+fault_then : (m : ℕ) (r : ℕ) (x : Option Slots) (rest : Outcome) → FirstIn m x → FaultIn m rest → FaultIn m (first_fault r x rest)
 unfolding first_fault
-fault_then m r Nowhere rest h k = k
-fault_then m r (At j) rest h k = omega arith
+fault_then m r None rest h k = k
+fault_then m r (Some j) rest h k = omega arith
 
-issue_in : (m : ℕ) (b : Bool) (rest : GroupFault) → FaultIn m rest → FaultIn m (cond b (Broken 14 (slots 0)) rest)
+issue_in : (m : ℕ) (b : Bool) (rest : Outcome) → FaultIn m rest → FaultIn m (cond b (Broken 14 (slots 0)) rest)
 issue_in m true rest k = omega arith
 issue_in m false rest k = k
 

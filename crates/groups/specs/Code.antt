@@ -1,7 +1,9 @@
 -- What the code keeps of a group while it reads it, instruction by instruction, so that each is decoded once; and what that says of the
 -- group's rules. It is for the code alone: that it comes to what specs/Group.antt asks is proved in proofs/OfUnits.antt,
 -- proofs/OfReduction.antt and proofs/OfGroup.antt.
-use Rattle.std.specs.Prelude.{ℕ, zero, suc, ◌+◌, ◌%◌, ◌^◌, ◌≤◌, max, ◌≡◌, Bool, true, false, cond, not, ◌&&◌, ◌||◌, List, [], ◌∷◌, eqb, ltb, leb}
+use Rattle.std.specs.Prelude.{ℕ, zero, suc, ◌+◌, ◌%◌, ◌^◌, ◌≤◌, max, ◌≡◌, Bool, true, false, cond, not, ◌&&◌, ◌||◌, List, [], ◌∷◌, eqb, ltb, leb, Option, Some, None, Result, Ok, Err, ⊤}
+use Rattle.std.specs.Bool.{then_some}
+use Rattle.std.specs.Option.{option_or}
 use Rattle.units.specs.declared.Slots.{Slots}
 use Rattle.units.specs.Units.{slots}
 use Rattle.bits.specs.Fields.{field_of}
@@ -17,12 +19,9 @@ use Rattle.grants.specs.Grants.{all_granted}
 use Rattle.instructions.specs.Instruction.{class_of, bad_number, bad_field, has_relative, literals, named}
 use Rattle.groups.specs.declared.counts.Count.{Count}
 use Rattle.groups.specs.declared.counts.Count.TheVariants.{Nothing, One, Several}
-use Rattle.groups.specs.declared.First.{First}
-use Rattle.groups.specs.declared.First.TheVariants.{Nowhere, At}
 use Rattle.groups.specs.declared.Issues.{Issues}
 use Rattle.groups.specs.declared.Seen.{Seen}
 use Rattle.groups.specs.declared.GroupFault.{GroupFault}
-use Rattle.groups.specs.declared.GroupFault.TheVariants.{Clean, Broken}
 use Rattle.groups.specs.Group.{PerInstruction, any_below, all_below, literals_below, trans, units_before, unit_at, bad_unit_at, issued, is_alike}
 
 -- ---- 13: the units taken are the bits of a number
@@ -88,40 +87,35 @@ count_of zero = Nothing
 count_of (suc zero) = One
 count_of (suc (suc n)) = Several
 
-unfoldable pub one_more : Count → Count
-one_more Nothing = One
-one_more One = Several
-one_more Several = Several
-
-abbrev pub counted_if : Bool → Count → Count
-counted_if b n = cond b (one_more n) n
+abbrev pub one_if : Bool → Count
+one_if b = cond b One Nothing
 
 -- two counts together
-unfoldable pub together : Count → Count → Count
+abbrev pub together : Count → Count → Count
 together Nothing n = n
 together One Nothing = One
 together One One = Several
 together One Several = Several
 together Several n = Several
 
-unfoldable pub is_one : Count → Bool
+abbrev pub is_one : Count → Bool
 is_one Nothing = false
 is_one One = true
 is_one Several = false
 
-unfoldable pub is_several : Count → Bool
+abbrev pub is_several : Count → Bool
 is_several Nothing = false
 is_several One = false
 is_several Several = true
 
--- ---- the first instruction that breaks a rule
+-- ---- the first instruction that breaks a rule, by how many slots it lies behind the group's first
 
-unfoldable pub or_here : First → Slots → Bool → First
-or_here Nowhere j b = cond b (At j) Nowhere
-or_here (At k) j b = At k
+-- the one that broke it before, or else the one in slot j if it does
+abbrev pub or_here : Option Slots → Slots → Bool → Option Slots
+or_here first j b = option_or first (then_some b j)
 
-unfoldable pub first_below : (ℕ → Bool) → ℕ → First
-first_below f zero = Nowhere
+unfoldable pub first_below : (ℕ → Bool) → ℕ → Option Slots
+first_below f zero = None
 first_below f (suc m) = or_here (first_below f m) (slots m) (f m)
 
 -- ---- rule 14's figures
@@ -129,8 +123,8 @@ first_below f (suc m) = or_here (first_below f m) (slots m) (f m)
 unfoldable pub next_issues : Issues → Issue → Bool → Bool → Issues
 next_issues i issue relative uneven =
     record {
-      setters = counted_if (is_issue issue Predicate) i.setters;
-      issued = counted_if (is_issue issue Predicate || is_issue issue Kill) i.issued;
+      setters = together i.setters (one_if (is_issue issue Predicate));
+      issued = together i.issued (one_if (is_issue issue Predicate || is_issue issue Kill));
       kill = i.kill || is_issue issue Kill;
       mova = i.mova || is_issue issue Mova;
       relative = i.relative || relative;
@@ -177,10 +171,10 @@ abbrev pub none_seen : Seen
 none_seen =
     record {
       literals = 0;
-      numbers = Nowhere;
-      fields = Nowhere;
-      units = Nowhere;
-      grants = Nowhere;
+      numbers = None;
+      fields = None;
+      units = None;
+      grants = None;
       taken = 0;
       issues =
           record {
@@ -222,11 +216,21 @@ seen_of limits lo hi m =
 
 -- ---- the group's first broken rule of 11 to 15, and how far behind the group's first slot it shows
 
-unfoldable pub first_fault : ℕ → First → GroupFault → GroupFault
-first_fault r Nowhere rest = rest
-first_fault r (At j) rest = Broken r j
+-- the code's type for it: `Ok`, or the fault
+abbrev pub Outcome : Type 0
+Outcome = Result ⊤ GroupFault
 
-unfoldable pub fault_of : Seen → ℕ → Bool → GroupFault
+pattern abbrev pub Clean : Outcome
+Clean = Ok (record {})
+
+abbrev pub Broken : ℕ → Slots → Outcome
+Broken r j = Err (record { rule = r; behind = j })
+
+unfoldable pub first_fault : ℕ → Option Slots → Outcome → Outcome
+first_fault r None rest = rest
+first_fault r (Some j) rest = Broken r j
+
+unfoldable pub fault_of : Seen → ℕ → Bool → Outcome
 fault_of s m may_kill =
     first_fault 11 s.numbers
     (first_fault 12 s.fields

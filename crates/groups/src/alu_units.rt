@@ -6,37 +6,19 @@ ghost use Rattle.groups.specs.Code as unitCode;
 
 use bits::{field, read, with_bit};
 use formats::fields;
-use opcodes::alu::{Unit, is_unit};
 use units::Slots;
 
 const TRANS: u32 = 4;
 
-fn is_taken(taken: u32, unit: u32) -> bool
-    ensures { result ≡ unitCode.is_taken taken unit }
-{
-    field(taken, unit, 1) == 1
-}
-
 // The units taken, with that one too.
+#[tactic(auto, unfolding(crate::specs::Code::occupied))]
 pub fn occupy(taken: u32, unit: u32) -> u32
     ensures { result ≡ unitCode.occupied taken unit }
 {
     with_bit(taken, unit)
 }
 
-// The unit that an instruction of this class gets with this DST_CHAN.
-pub(crate) fn unit_for(taken: u32, class: Unit, chan: u32) -> u32
-    ensures { result ≡ unitCode.unit_for taken class chan }
-{
-    let moves = is_unit(class, Unit::Any) & is_taken(taken, chan);
-    if is_unit(class, Unit::Trans) | moves {
-        TRANS
-    } else {
-        chan
-    }
-}
-
-// 1 where an instruction goes to Trans, of a class by its number (opcodes, codeOf), and else 0: by bits, since a choice here would be a branch.
+// 1 where an instruction goes to Trans, of a class by its number (opcodes, code_of), and else 0: by bits, since a choice here would be a branch.
 fn moves(taken: u32, code: u32, chan: u32) -> u32
     ensures { result ≡ unitCode.moves_by taken (code % 4) chan }
 {
@@ -44,7 +26,7 @@ fn moves(taken: u32, code: u32, chan: u32) -> u32
     (unit / 2 | field(taken, chan, 1)) & (unit % 2)
 }
 
-// The same as `unit_for`, of a class by its number.
+// The unit that an instruction of this class, by its number, gets with this DST_CHAN.
 pub fn unit_by_code(taken: u32, code: u32, chan: u32) -> u32
     ensures { result ≡ unitCode.unit_by taken (code % 4) chan }
 {
@@ -56,12 +38,14 @@ pub fn unit_by_code(taken: u32, code: u32, chan: u32) -> u32
 }
 
 // Whether that unit or one above it is taken; there are five.
+#[tactic(auto, unfolding(crate::specs::Code::taken_from))]
 fn taken_from(taken: u32, unit: u32) -> bool
     ensures { result ≡ unitCode.taken_from taken unit }
 {
     field(taken, unit, 5) != 0
 }
 
+#[tactic(auto, unfolding(crate::specs::Code::bad_unit))]
 pub fn is_bad_unit(taken: u32, unit: u32, swizzle: u32) -> bool
     ensures { result ≡ unitCode.bad_unit taken unit swizzle }
 {
@@ -70,6 +54,7 @@ pub fn is_bad_unit(taken: u32, unit: u32, swizzle: u32) -> bool
 
 // Whether a reduction's group is broken by the instruction in its slot j, in that unit: it is one of the first four, and not in the unit
 // of its number or unlike the group's first in number, OMOD or CLAMP. Units rise where rule 13 is kept, so this is what rule 14 asks.
+#[tactic(auto, unfolding(crate::specs::Code::is_uneven))]
 pub(crate) fn is_uneven(j: Slots, unit: u32, first: u32, high: u32) -> bool
     ensures { result ≡ unitCode.is_uneven j.0 unit first high }
 {
@@ -77,6 +62,7 @@ pub(crate) fn is_uneven(j: Slots, unit: u32, first: u32, high: u32) -> bool
 }
 
 // Whether two have one number, equal OMOD and CLAMP.
+#[tactic(auto, unfolding(crate::specs::Group::is_alike))]
 pub fn is_alike(a: u32, b: u32) -> bool
     ensures { result ≡ is_alike a b }
 {

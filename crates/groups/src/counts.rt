@@ -1,55 +1,36 @@
 // None, one or several: all that rule 14 and PUSH_BEFORE ask of a number.
 ghost use Rattle.std.specs.Prelude.{◌≡◌};
-ghost use Rattle.groups.specs.Code.{counted_if, together, is_one, is_several};
+ghost use Rattle.groups.specs.Code.{one_if, together};
 
-#[derive(Clone, Copy)]
+use std::ops::Add;
+
+#[derive(Clone, Copy, Debug, Default, PartialEq, Eq)]
 pub enum Count {
+    #[default]
     Nothing,
     One,
     Several,
 }
 
-// One more if `yes`.
-pub(crate) fn counted_if(yes: bool, count: Count) -> Count
-    ensures { result ≡ counted_if yes count }
-{
-    if !yes {
-        return count;
-    }
-    match count {
-        Count::Nothing => Count::One,
-        Count::One => Count::Several,
-        Count::Several => Count::Several,
+// One if so, and else none.
+impl From<bool> for Count {
+    ghost from_gives = { λ yes count. count ≡ one_if yes };
+
+    fn from(yes: bool) -> Count {
+        if yes { Count::One } else { Count::Nothing }
     }
 }
 
-// Two counts together.
-pub fn together(a: Count, b: Count) -> Count
-    ensures { result ≡ together a b }
-{
-    match a {
-        Count::Nothing => b,
-        Count::One => counted_if(true, b),
-        Count::Several => Count::Several,
-    }
-}
+impl Add for Count {
+    type Output = Count;
 
-pub fn is_one(count: Count) -> bool
-    ensures { result ≡ is_one count }
-{
-    match count {
-        Count::Nothing => false,
-        Count::One => true,
-        Count::Several => false,
-    }
-}
+    ghost add_gives = { λ a b sum. sum ≡ together a b };
 
-pub(crate) fn is_several(count: Count) -> bool
-    ensures { result ≡ is_several count }
-{
-    match count {
-        Count::Nothing => false,
-        Count::One => false,
-        Count::Several => true,
+    fn add(self, other: Count) -> Count {
+        match (self, other) {
+            (Count::Nothing, count) => count,
+            (count, Count::Nothing) => count,
+            _ => Count::Several,
+        }
     }
 }

@@ -15,18 +15,11 @@ use counts::Count;
 use formats::fields;
 use grants::Limits;
 use instructions::class_of;
-use opcodes::alu::{Issue, is_issue};
+use opcodes::alu::Issue;
 use units::Slots;
 
-// The first instruction of a group that breaks a rule, by how many slots it lies behind the group's first.
-#[derive(Clone, Copy)]
-pub enum First {
-    Nowhere,
-    At(Slots),
-}
-
 // Rule 14's figures.
-#[derive(Clone, Copy)]
+#[derive(Clone, Copy, Default)]
 pub struct Issues {
     pub setters: Count,
     // Setters and kills together.
@@ -39,51 +32,30 @@ pub struct Issues {
     pub uneven: bool,
 }
 
-#[derive(Clone, Copy)]
+// What has been seen of a group's instructions, nothing by default.
+#[derive(Clone, Copy, Default)]
 pub struct Seen {
     // Literal quadwords, for rule 10.
     pub literals: u32,
-    // Rules 11, 12, 13 and 15.
-    pub numbers: First,
-    pub fields: First,
-    pub units: First,
-    pub grants: First,
+    // Rules 11, 12, 13 and 15: the first instruction that breaks each, by how many slots it lies behind the group's first.
+    pub numbers: Option<Slots>,
+    pub fields: Option<Slots>,
+    pub units: Option<Slots>,
+    pub grants: Option<Slots>,
     // The units taken, as bits.
     pub taken: u32,
     pub issues: Issues,
 }
 
 // What a group breaks, and how many slots behind its first.
-#[derive(Clone, Copy)]
-pub enum GroupFault {
-    Clean,
-    Broken(u8, Slots),
-}
-
-// Nothing read yet.
-pub fn none_seen() -> Seen
-    ensures { result ≡ code.none_seen }
-{
-    Seen {
-        literals: 0,
-        numbers: First::Nowhere,
-        fields: First::Nowhere,
-        units: First::Nowhere,
-        grants: First::Nowhere,
-        taken: 0,
-        issues: Issues {
-            setters: Count::Nothing,
-            issued: Count::Nothing,
-            kill: false,
-            mova: false,
-            relative: false,
-            reduction: false,
-            uneven: false,
-        },
-    }
+#[derive(Clone, Copy, Debug, PartialEq, Eq)]
+pub struct GroupFault {
+    pub rule: u8,
+    pub behind: Slots,
 }
 
 // One instruction more, in slot j of the group; `first` is the high word of the group's first instruction.
+#[tactic(auto, unfolding(crate::specs::Code::next_seen, crate::specs::Code::unit_of, instructions::specs::Instruction::bad_number))]
 pub fn read_instruction(
     seen: Seen,
     limits: Limits,
@@ -95,97 +67,78 @@ pub fn read_instruction(
     ensures { result ≡ code.next_seen limits j first low high seen }
 {
     let class = class_of(high);
-    let numbers = seen.numbers;
-    let fields = seen.fields;
-    let units = seen.units;
-    let grants = seen.grants;
-    let unit_class = class.unit;
-    let issue = class.issue;
-    let unit = alu_units::unit_for(seen.taken, unit_class, read(high, fields::DST_CHAN));
+    let unit = alu_units::unit_by_code(seen.taken, class.unit as u32, read(high, fields::DST_CHAN));
     let bad_unit = alu_units::is_bad_unit(seen.taken, unit, read(high, fields::BANK_SWIZZLE));
     let uneven = alu_units::is_uneven(j, unit, first, high);
     let relative = instructions::has_relative(low, high);
+    let granted = instructions::operands_granted(limits, low, high);
     Seen {
-        literals: instructions::larger(seen.literals, instructions::literals_of(low, high)),
-        numbers: or_here(numbers, j, !opcodes::alu::is_taken(class)),
-        fields: or_here(fields, j, instructions::is_bad_field(low, high)),
-        units: or_here(units, j, bad_unit),
-        grants: or_here(
-            grants,
-            j,
-            !instructions::operands_granted(limits, low, high),
-        ),
+        literals: seen.literals.max(instructions::literals_of(low, high)),
+        numbers: or_here(seen.numbers, j, !opcodes::alu::is_taken(class)),
+        fields: or_here(seen.fields, j, instructions::is_bad_field(low, high)),
+        units: or_here(seen.units, j, bad_unit),
+        grants: or_here(seen.grants, j, !granted),
         taken: alu_units::occupy(seen.taken, unit),
-        issues: next_issues(seen.issues, issue, relative, uneven),
+        issues: next_issues(seen.issues, class.issue, relative, uneven),
     }
 }
 
 // The first broken rule of a group of `size` instructions; `may_kill` where kills may stand.
-pub fn group_fault(seen: Seen, size: Slots, may_kill: bool) -> GroupFault
+#[tactic(auto, unfolding(crate::specs::Code::fault_of, crate::specs::Code::first_fault))]
+pub fn group_fault(seen: Seen, size: Slots, may_kill: bool) -> Result<(), GroupFault>
     ensures { result ≡ code.fault_of seen size.0 may_kill }
 {
-    let numbers = seen.numbers;
-    if let First::At(j) = numbers {
-        return GroupFault::Broken(11, j);
+    kept_but_at(11, seen.numbers)?;
+    kept_but_at(12, seen.fields)?;
+    kept_but_at(13, seen.units)?;
+    let bad_issue = is_bad_issue(seen.issues, size, may_kill);
+    kept_but_at(14, bad_issue.then_some(Slots(0)))?;
+    kept_but_at(15, seen.grants)
+}
+
+// A rule that is kept, unless it is broken there.
+#[tactic(auto, unfolding(crate::specs::Code::first_fault))]
+fn kept_but_at(rule: u8, first: Option<Slots>) -> Result<(), GroupFault>
+    ensures { result ≡ code.first_fault rule first code.Clean }
+{
+    match first {
+        Some(behind) => Err(GroupFault { rule, behind }),
+        None => Ok(()),
     }
-    let fields = seen.fields;
-    if let First::At(j) = fields {
-        return GroupFault::Broken(12, j);
-    }
-    let units = seen.units;
-    if let First::At(j) = units {
-        return GroupFault::Broken(13, j);
-    }
-    if is_bad_issue(seen.issues, size, may_kill) {
-        return GroupFault::Broken(14, Slots(0));
-    }
-    let grants = seen.grants;
-    if let First::At(j) = grants {
-        return GroupFault::Broken(15, j);
-    }
-    GroupFault::Clean
 }
 
 // Rule 14, from its figures.
+#[tactic(auto, unfolding(crate::specs::Code::bad_issues))]
 fn is_bad_issue(issues: Issues, size: Slots, may_kill: bool) -> bool
     ensures { result ≡ code.bad_issues issues size.0 may_kill }
 {
     let wrong_kill = issues.kill & !may_kill;
     let wrong_mova = issues.mova & issues.relative;
     let wrong_reduction = issues.reduction & ((size.0 < 4) | issues.uneven);
-    let issued = issues.issued;
-    counts::is_several(issued) | (wrong_kill | (wrong_mova | wrong_reduction))
+    (issues.issued == Count::Several) | (wrong_kill | (wrong_mova | wrong_reduction))
 }
 
 // Rule 14's figures with one instruction more.
+#[tactic(auto, unfolding(crate::specs::Code::next_issues, opcodes::specs::Alu::is_issue))]
 fn next_issues(issues: Issues, issue: Issue, relative: bool, uneven: bool) -> Issues
     ensures { result ≡ code.next_issues issues issue relative uneven }
 {
-    let setters = issues.setters;
-    let issued = issues.issued;
-    let setter = is_issue(issue, Issue::Predicate);
-    let kill = is_issue(issue, Issue::Kill);
+    let setter = issue == Issue::Predicate;
+    let kill = issue == Issue::Kill;
     Issues {
-        setters: counts::counted_if(setter, setters),
-        issued: counts::counted_if(setter | kill, issued),
+        setters: issues.setters + Count::from(setter),
+        issued: issues.issued + Count::from(setter | kill),
         kill: issues.kill | kill,
-        mova: issues.mova | is_issue(issue, Issue::Mova),
+        mova: issues.mova | (issue == Issue::Mova),
         relative: issues.relative | relative,
-        reduction: issues.reduction | is_issue(issue, Issue::Reduction),
+        reduction: issues.reduction | (issue == Issue::Reduction),
         uneven: issues.uneven | uneven,
     }
 }
 
-fn or_here(first: First, j: Slots, broken: bool) -> First
+// The instruction that broke a rule before, or else the one in slot j if it does.
+fn or_here(first: Option<Slots>, j: Slots, broken: bool) -> Option<Slots>
     ensures { result ≡ code.or_here first j broken }
 {
-    match first {
-        First::Nowhere => {
-            if broken {
-                return First::At(j);
-            }
-            First::Nowhere
-        }
-        First::At(k) => First::At(k),
-    }
+    first.or(broken.then_some(j))
 }
