@@ -1,40 +1,25 @@
 -- A clause, group by group: the groups passed break nothing, so the verdict is that of the groups left. Assumes nothing.
-use Rattle.std.proofs.Common.{◌≡◌, ℕ, zero, suc, ◌+◌, ◌-◌, ◌<◌, ◌≤◌, Bool, true, false, cond, not, ◌&&◌, ◌||◌, eqb, List, [], ◌∷◌, ◌++◌, length, sym, refl, ap, ◌∙◌, arith, le-ltb, lt-ltb}
+use Rattle.std.proofs.Common.{◌≡◌, ℕ, zero, suc, ◌+◌, ◌-◌, ◌<◌, ◌≤◌, Bool, true, false, cond, not, ◌&&◌, ◌||◌, eqb, List, [], ◌∷◌, ◌++◌, length, Err, sym, refl, ap, ◌∙◌, arith, le-ltb, lt-ltb}
 use mathlib.Core.Bool.{false≢true}
 use Rattle.units.specs.declared.Quadwords.{Quadwords}
 use Rattle.units.specs.declared.Slots.{Slots}
 use Rattle.units.specs.Units.{words, slots, slot_quadword, slot_behind, slots_left, slots_length, lies_in}
 use Rattle.checks.specs.declared.Place.TheVariants.{Quadword}
-use Rattle.checks.specs.declared.Verdict.{Verdict}
-use Rattle.checks.specs.declared.Verdict.TheVariants.{Accepted, Refused}
+use Rattle.checks.specs.Verdict.{Verdict, Accepted, Refused}
 use Rattle.checks.specs.Checks.{check, first_broken}
 use Rattle.checks.proofs.OfChecks.{hit, miss, and_then_lem, joined, joined_clean, joined_refused}
 use Rattle.card.specs.declared.Kind.{Kind}
 use Rattle.opcodes.specs.declared.alu.Issue.TheVariants.{Predicate}
 use Rattle.grants.specs.declared.Limits.{Limits}
-use Rattle.groups.specs.declared.counts.Count.{Count}
 use Rattle.groups.specs.declared.GroupFault.{GroupFault}
-use Rattle.groups.specs.declared.GroupFault.TheVariants.{Clean, Broken}
 use Rattle.groups.specs.Group.{issued, rule_checks}
-use Rattle.groups.specs.Code.{count_of, is_one, seen_of, fault_of}
+use Rattle.groups.specs.Code.{count_of, is_one, seen_of, Outcome, Clean, fault_of}
 use Rattle.groups.proofs.OfGroup.{counts_one, answer, group_answer}
 use Rattle.clauses.specs.Clause.{low_of, high_of, size_of, span_of, bad_shape, groups_from, groups_of, is_pixel, may_kill, group_checks, checks_of, setters_in, bad_push, clause_checks}
 use Rattle.clauses.specs.CodeRead.{push_verdict}
 use Rattle.clauses.proofs.OfRead.{shaped}
 
 -- ---- PUSH_BEFORE's count
-
-pub push_refused :
-    (push : Bool) (count : Count) (place : Quadwords) (one : Bool) (v : Verdict) → one ≡ is_one count → (push && not one) ≡ true
-    → v ≡ Refused 14 (Quadword place) (slots 0) → v ≡ push_verdict push count place
-unfolding push_verdict
-push_refused push count place one v e h f = f ∙ rw ((λ i. push && not (sym e i)) ∙ h)
-
-pub push_passed :
-    (push : Bool) (count : Count) (place : Quadwords) (one : Bool) → one ≡ is_one count → (push && not one) ≡ false
-    → Accepted ≡ push_verdict push count place
-unfolding push_verdict
-push_passed push count place one e h = rw ((λ i. push && not (sym e i)) ∙ h)
 
 -- nothing is pushed, or there is one
 pub push_one :
@@ -104,7 +89,7 @@ module _ (pixel : Bool) (limits : Limits) (w : List ℕ) (place s : Quadwords) (
     unfolding checks_of group_checks
     along-bad h = here ∙ hit (check 10 (Quadword place) g (bad_shape w (slot_quadword s g) (slots_left n g))) _ h
 
-    module _ (h : bad_shape w (slot_quadword s g) (slots_left n g) ≡ false) {fault : GroupFault}
+    module _ (h : bad_shape w (slot_quadword s g) (slots_left n g) ≡ false) {fault : Outcome}
         (f : fault ≡ fault_of (seen_of limits (low_of w (slot_quadword s g)) (high_of w (slot_quadword s g)) (size g)) (size g) (may_kill pixel n (slot_behind g (span g)))) where
       -- past the shape: the group's rules, then the groups behind it
       past :
@@ -124,11 +109,11 @@ module _ (pixel : Bool) (limits : Limits) (w : List ℕ) (place s : Quadwords) (
           (group_answer place g limits (may_kill pixel n (slot_behind g (span g))) (low_of w (slot_quadword s g)) (high_of w (slot_quadword s g)) (size g) ∙ ap (answer place g) (sym f))
 
       pub along-fault :
-          {r : ℕ} {behind : Slots} → fault ≡ Broken r behind
-          → verdict (groups_of w s n) ≡ Refused r (Quadword place) (slot_behind g behind)
+          {broken : GroupFault} → fault ≡ Err broken
+          → verdict (groups_of w s n) ≡ Refused broken.rule (Quadword place) (slot_behind g broken.behind)
       along-fault q =
           past
-          ∙ ap (λ (x : GroupFault). and_then_lem (answer place g x) (verdict (groups_from w s n (a.fuel - 1) (slot_behind g (span g))))) q
+          ∙ ap (λ (x : Outcome). and_then_lem (answer place g x) (verdict (groups_from w s n (a.fuel - 1) (slot_behind g (span g))))) q
 
       setters-here :
           setters_in w s n (groups_from w s n a.fuel g) ≡ issued Predicate (high_of w (slot_quadword s g)) (size g) + setters_in w
@@ -151,7 +136,7 @@ module _ (pixel : Bool) (limits : Limits) (w : List ℕ) (place s : Quadwords) (
             rest =
                 past
                 ∙ ap
-                (λ (x : GroupFault). and_then_lem (answer place g x) (verdict (groups_from w s n (a.fuel - 1) (slot_behind g (span g)))))
+                (λ (x : Outcome). and_then_lem (answer place g x) (verdict (groups_from w s n (a.fuel - 1) (slot_behind g (span g)))))
                 q;
           }
 

@@ -7,7 +7,7 @@ use mathlib.Core.List.{Memᴰ}
 use Rattle.units.specs.declared.Quadwords.{Quadwords}
 use Rattle.units.specs.declared.Slots.{Slots}
 use Rattle.units.specs.Units.{slots, words, slot_quadword, slot_behind, slots_left, slots_length, lies_in}
-use Rattle.checks.specs.declared.Verdict.TheVariants.{Accepted}
+use Rattle.checks.specs.Verdict.{Accepted}
 use Rattle.checks.specs.Checks.{first_broken}
 use Rattle.checks.proofs.OfChecks.{first_clean, rest_clean, left_clean, right_clean}
 use Rattle.card.specs.declared.Kind.{Kind}

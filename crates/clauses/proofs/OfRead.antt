@@ -1,11 +1,9 @@
 -- One group, read instruction by instruction: its size, and where it lies. Assumes nothing.
-use Rattle.std.proofs.Common.{◌≡◌, ℕ, zero, suc, ◌+◌, ◌-◌, ◌*◌, ◌^◌, ◌<◌, ◌≤◌, Bool, true, false, cond, ◌||◌, eqb, ltb, List, length, get_or, sym, refl, ap, ◌∙◌, add-one, arith, ltb-false, ltb-true, le-ltb, lt-ltb, eq-eqb, ne_eqb}
+use Rattle.std.proofs.Common.{◌≡◌, ℕ, zero, suc, ◌+◌, ◌-◌, ◌*◌, ◌^◌, ◌/◌, ◌<◌, ◌≤◌, Bool, true, false, cond, ◌||◌, eqb, ltb, min, List, length, get_or, Option, Some, None, sym, refl, ap, ◌∙◌, add-one, arith, ltb-false, ltb-true, le-ltb, lt-ltb, leb-true, le-leb, eq-eqb, ne_eqb}
 use mathlib.Core.Bool.{or-true, false≢true}
 use Rattle.units.specs.declared.Quadwords.{Quadwords}
 use Rattle.units.specs.declared.Slots.{Slots}
-use Rattle.units.specs.declared.Words.{Words}
-use Rattle.units.specs.Units.{slots, low_word, low_at, high_at, is_slot_below}
-use Rattle.units.specs.Code.{words_in_64, capped}
+use Rattle.units.specs.Units.{slots, words, low_at, high_at, slots_length, lies_in, is_slot_below}
 use Rattle.formats.specs.Fields.{◌of◌, «LAST»}
 use Rattle.grants.specs.declared.Limits.{Limits}
 use Rattle.groups.specs.declared.Seen.{Seen}
@@ -13,32 +11,28 @@ use Rattle.groups.specs.Code.{none_seen, next_seen, seen_of}
 use Rattle.groups.proofs.OfGroup.{seen_none, seen_next}
 use Rattle.clauses.specs.declared.Group.{Group}
 use Rattle.clauses.specs.Clause.{low_of, high_of, is_last, size_from, size_of, span_of, bad_shape}
-use Rattle.clauses.specs.CodeRead.{group_of, no_group, Readable}
+use Rattle.clauses.specs.CodeRead.{group_of}
 
--- ---- where a group's words are
+-- ---- where a clause's words are
 
--- its first word has its true number, and those of the slots left lie in the buffer
-pub frame :
-    {w : List ℕ} {at : Quadwords} {left : Slots} {first : Words} → Readable w at left → length w < 2 ^ 64
-    → first ≡ words_in_64 (low_word at) → (first.0 ≡ 2 * at.0) × (first.0 + 2 * left.0 ≤ length w)
-frame {w = w} {at = at} {left = left} {first = first} r h e =
-    let z : first.0 ≡ capped (2 * at.0) = ap (λ (x : Words). x.0) e in
-    (omega (arith, r.some, r.inside, z), omega (arith, r.some, r.inside, z))
+-- in the buffer
+pub reach : (w : List ℕ) (s : Quadwords) (n : Slots) → lies_in (words (length w)) s (slots_length n) ≡ true → 2 * (s.0 + n.0) ≤ length w
+unfolding lies_in
+reach w s n h = omega (arith, leb-true (s.0 + n.0) (length w / 2) h)
 
-module _ (w : List ℕ) (at : Quadwords) {first : ℕ} (e : first ≡ 2 * at.0) where
-  -- the high word of its first instruction
-  pub first_high : get_or w (first + 1) 0 ≡ high_of w at 0
-  unfolding high_of high_at
-  first_high = let z : first + 1 ≡ 2 * (at.0 + 0) + 1 = omega arith in ap (λ (k : ℕ). get_or w k 0) z
+pub reached : (w : List ℕ) (s : Quadwords) (n : Slots) → 2 * (s.0 + n.0) ≤ length w → lies_in (words (length w)) s (slots_length n) ≡ true
+unfolding lies_in
+reached w s n h = le-leb (s.0 + n.0) (length w / 2) (omega (arith, h))
 
-  -- the words of instruction j
-  pub low_there : (j : ℕ) → get_or w (first + 2 * j) 0 ≡ low_of w at j
+-- the words of instruction j of the group at a quadword
+module _ (w : List ℕ) (at : Quadwords) (j : ℕ) {q : ℕ} (e : q ≡ at.0 + j) where
+  pub low_there : get_or w (2 * q) 0 ≡ low_of w at j
   unfolding low_of low_at
-  low_there j = let z : first + 2 * j ≡ 2 * (at.0 + j) = omega arith in ap (λ (k : ℕ). get_or w k 0) z
+  low_there = ap (λ (k : ℕ). get_or w (2 * k) 0) e
 
-  pub high_there : (j : ℕ) → get_or w (first + 2 * j + 1) 0 ≡ high_of w at j
+  pub high_there : get_or w (2 * q + 1) 0 ≡ high_of w at j
   unfolding high_of high_at
-  high_there j = let z : first + 2 * j + 1 ≡ 2 * (at.0 + j) + 1 = omega arith in ap (λ (k : ℕ). get_or w k 0) z
+  high_there = ap (λ (k : ℕ). get_or w (2 * k + 1) 0) e
 
 -- ---- its size
 
@@ -135,19 +129,15 @@ module _ (w : List ℕ) (at : Quadwords) (left : Slots) where
     reading_none e f =
         record { few = omega arith; first-is = e; seen-is = f ∙ seen_none limits (low_of w at) (high_of w at); size_is = refl }
 
-    none_is : {r : Group} → r ≡ no_group → size_of w at left ≡ 0 → r ≡ group_of limits w at left
-    unfolding group_of
-    none_is e f =
-        e
-        ∙
-        (λ i. record { size = slots (sym f i); seen = (seen_none limits (low_of w at) (high_of w at) ∙ (λ n. seen_of limits (low_of w at) (high_of w at) (sym f n))) i })
-
     module _ {first : ℕ} {seen : Seen} {j : ℕ} (r : Reading first seen j) where
-      pub reading-short : {g : Group} → j < 5 → left.0 ≤ j → g ≡ no_group → g ≡ group_of limits w at left
-      reading-short l m e = none_is e (r.size_is ∙ size_short j l m)
-
-      pub reading-five : {g : Group} → 5 ≤ j → g ≡ no_group → g ≡ group_of limits w at left
-      reading-five l e = none_is e (r.size_is ∙ size_five j l r.few)
+      -- five are read, or all in the clause
+      pub reading-out : min left.0 5 ≤ j → None ≡ group_of limits w at left
+      unfolding group_of
+      reading-out l = rw (r.size_is ∙ by (ltb j 5) refl)
+        where
+          by : (b : Bool) → ltb j 5 ≡ b → size_from w at left j (5 - j) ≡ 0
+          by true e = let k = ltb-true j 5 e in size_short j k (omega (arith, k, l))
+          by false e = size_five j (ltb-false j 5 e) r.few
 
       module _ {low high : ℕ} {after : Seen} (l : j < 5) (m : j < left.0) (p : low ≡ low_of w at j) (q : high ≡ high_of w at j)
           (a : after ≡ next_seen limits (slots j) first low high seen) where
@@ -163,15 +153,16 @@ module _ (w : List ℕ) (at : Quadwords) (left : Slots) where
           unfolding is_last
           is-last b h = (λ i. eqb («LAST» of (sym p i)) 1) ∙ ap (λ (n : ℕ). eqb n 1) (sym f) ∙ h
 
-          pub reading-last : last ≡ 1 → record { size = slots (j + 1); seen = after } ≡ group_of limits w at left
+          pub reading-last : last ≡ 1 → Some (record { size = slots (j + 1); seen = after }) ≡ group_of limits w at left
           unfolding group_of
           reading-last h =
               let size : size_of w at left ≡ j + 1 = r.size_is ∙ size_here j l m (is-last true (eq-eqb last 1 h)) in
-              λ i.
-              record {
-                size = slots (sym size i);
-                seen = (seen_more ∙ (λ n. seen_of limits (low_of w at) (high_of w at) (sym size n))) i;
-              }
+              (λ i. Some (record { size = slots (j + 1); seen = seen_more i }))
+              ∙ sym
+              (ap
+              (λ (k : ℕ). cond (eqb k 0) None (Some (record { size = slots k; seen = seen_of limits (low_of w at) (high_of w at) k })))
+              size
+              ∙ rw (ne_eqb (j + 1) 0 (λ z. absurd (omega (arith, z)))))
 
           pub reading-next : (last ≡ 1 → ⊥) → Reading first after (j + 1)
           reading-next h =

@@ -20,20 +20,22 @@ use Rattle.grants.specs.Grants.{all_granted}
 use Rattle.instructions.specs.Instruction.{class_of, bad_field, has_relative, named}
 use Rattle.screens.specs.Code.{starts_of, widths_of, broken_by, more_literals}
 use Rattle.screens.proofs.OfGaps.{unbroken_field, unbroken_grants, unbroken_literals}
-use Rattle.groups.specs.declared.First.TheVariants.{Nowhere}
-use Rattle.groups.specs.declared.GroupFault.TheVariants.{Clean}
+use Rattle.std.specs.Prelude.{None}
+use Rattle.checks.specs.Verdict.{Accepted}
+use Rattle.checks.specs.Checks.{first_broken}
+use Rattle.card.specs.declared.Kind.{Kind}
 use Rattle.groups.specs.declared.Issues.{Issues}
 use Rattle.groups.specs.declared.Seen.{Seen}
 use Rattle.groups.specs.Group.{PerInstruction, any_below, all_below, literals_below, trans, bad_unit_at, issued, is_alike}
-use Rattle.groups.specs.Code.{Taken, unit_for, unit_by, bad_unit, occupied, taken_before, is_uneven, next_issues, issues_of, tally_of, is_straight, Issued, next_seen, seen_of, bad_issues, fault_of}
+use Rattle.groups.specs.Code.{Taken, unit_for, unit_by, bad_unit, occupied, taken_before, is_uneven, next_issues, issues_of, tally_of, is_straight, Issued, next_seen, seen_of, bad_issues, Clean, fault_of}
 use Rattle.groups.proofs.OfCode.{not_here, next_seen_lem, breaks-none}
 use Rattle.groups.proofs.OfGroup.{first_none, seen_none, seen_next}
 use Rattle.groups.proofs.OfTally.{code_unit, code_issue, unit_by_code, Digits, digits, counted-clear, plain-clear}
 use Rattle.groups.proofs.OfUnits.{kept_few}
 use Rattle.clauses.specs.declared.screen.Tally.{Tally}
-use Rattle.clauses.specs.Clause.{low_of, high_of, is_last, size_from, size_of, span_of, bad_shape, may_kill}
-use Rattle.clauses.specs.CodeScreen.{no_tally, is_wrong, with_one, kept_of, size_in, first_of, Ends, Kept}
-use Rattle.clauses.proofs.OfRead.{size_here, size_next, good}
+use Rattle.clauses.specs.Clause.{low_of, high_of, is_last, size_from, size_of, span_of, bad_shape, is_pixel, may_kill, clause_checks}
+use Rattle.clauses.specs.CodeScreen.{no_tally, is_wrong, with_one, kept_of, size_in, first_of, Ends}
+use Rattle.clauses.proofs.OfRead.{reached, size_here, size_next, good}
 use Rattle.clauses.proofs.OfClause.{Along, along_none, along-next, clause-done, push_one}
 
 -- ---- masks and digits
@@ -108,7 +110,7 @@ module _ (starts widths : List ℕ) (t : Taken) (code u lo hi : ℕ) where
 -- all that has been seen, where nothing was broken
 abbrev clear_seen : ℕ → Taken → Issues → Seen
 clear_seen n t i =
-    record { literals = n; numbers = Nowhere; fields = Nowhere; units = Nowhere; grants = Nowhere; taken = t; issues = i }
+    record { literals = n; numbers = None; fields = None; units = None; grants = None; taken = t; issues = i }
 
 -- what is kept says what has been seen of the first j instructions
 abbrev Clear : Limits → PerInstruction → PerInstruction → Tally → ℕ → Type 0
@@ -151,12 +153,12 @@ module _ (limits : Limits) (lo hi : PerInstruction) (j : ℕ) (t : Tally) (c : C
       })
       refl
       (unbroken_literals limits (lo j) (hi j) tests.0 t.literals)
-      (not_here Nowhere (slots j) (not (alu.is_taken (class_of (hi j)))) refl taken_there)
+      (not_here (slots j) (not (alu.is_taken (class_of (hi j)))) taken_there)
       refl
-      (not_here Nowhere (slots j) (bad_field (lo j) (hi j)) refl (unbroken_field limits (lo j) (hi j) tests.0))
-      (not_here Nowhere (slots j) (bad_unit t.taken u (BANK_SWIZZLE of (hi j))) refl tests.1.1)
+      (not_here (slots j) (bad_field (lo j) (hi j)) (unbroken_field limits (lo j) (hi j) tests.0))
+      (not_here (slots j) (bad_unit t.taken u (BANK_SWIZZLE of (hi j))) tests.1.1)
       refl
-      (not_here Nowhere (slots j) (not (all_granted limits (named (lo j) (hi j)))) refl (ap not (unbroken_grants limits (lo j) (hi j) tests.0)))
+      (not_here (slots j) (not (all_granted limits (named (lo j) (hi j)))) (ap not (unbroken_grants limits (lo j) (hi j) tests.0)))
       refl
       refl
       refl
@@ -234,35 +236,12 @@ module _ (limits : Limits) (lo hi : PerInstruction) (m : ℕ) (t : Tally) (c : C
 
 -- ---- rule 14's questions
 
--- the words of instruction k of a group
-module _ (w : List ℕ) (first k x : ℕ) where
-  pub low_at_lem : x ≡ 2 * (first + k) → get_or w x 0 ≡ low_of w (quadwords first) k
-  unfolding low_of low_at
-  low_at_lem e = ap (λ (y : ℕ). get_or w y 0) e
-
-  pub high_at_lem : x ≡ 2 * (first + k) + 1 → get_or w x 0 ≡ high_of w (quadwords first) k
-  unfolding high_of high_at
-  high_at_lem e = ap (λ (y : ℕ). get_or w y 0) e
-
-module _ (f : ℕ → Bool) where
-  pub any_none : false ≡ any_below f 0
-  unfolding any_below
-  any_none = refl
-
-  pub any_more : (j : ℕ) {any one : Bool} → any ≡ any_below f j → one ≡ f j → (any || one) ≡ any_below f (j + 1)
-  unfolding any_below
-  any_more j p q = (λ i. p i || q i) ∙ ap (any_below f) (sym (add-one j))
-
 module _ (hi : PerInstruction) (m t : ℕ) where
   pub straight_short : m < trans → false ≡ is_straight hi m t
   unfolding is_straight
   straight_short h = rw (lt-leb trans m h)
 
   module _ (l : trans ≤ m) where
-    pub straight-not : (t % 16 ≡ 15 → ⊥) → false ≡ is_straight hi m t
-    unfolding is_straight
-    straight-not h = rw (le-leb trans m l, ne_eqb (t % 16) 15 h)
-
     self : (g : ℕ) → is_alike g g ≡ true
     unfolding is_alike
     self g =
@@ -271,18 +250,19 @@ module _ (hi : PerInstruction) (m t : ℕ) where
         && (eq-eqb («OMOD» of g) («OMOD» of g) refl i && eq-eqb («CLAMP» of g) («CLAMP» of g) refl i)
 
     pub straight-is :
-        t % 16 ≡ 15 → {a b d : Bool} → a ≡ is_alike (hi 0) (hi 1) → b ≡ is_alike (hi 0) (hi 2) → d ≡ is_alike (hi 0) (hi 3)
-        → (a && (b && d)) ≡ is_straight hi m t
+        {a b d : Bool} → a ≡ is_alike (hi 0) (hi 1) → b ≡ is_alike (hi 0) (hi 2) → d ≡ is_alike (hi 0) (hi 3)
+        → (eqb (t % 16) 15 && (a && (b && d))) ≡ is_straight hi m t
     unfolding is_straight all_below
-    straight-is h p q r =
-        (λ i. p i && (q i && r i))
-        ∙ by (is_alike (hi 0) (hi 1)) (is_alike (hi 0) (hi 2)) (is_alike (hi 0) (hi 3))
+    straight-is p q r =
+        (λ i. eqb (t % 16) 15 && (p i && (q i && r i)))
+        ∙ by (eqb (t % 16) 15) (is_alike (hi 0) (hi 1)) (is_alike (hi 0) (hi 2)) (is_alike (hi 0) (hi 3))
         ∙ sym
-        ((λ i. le-leb trans m l i && (eq-eqb (t % 16) 15 h i && (((true && self (hi 0) i) && is_alike (hi 0) (hi 1)) && is_alike (hi 0) (hi 2) && is_alike (hi 0) (hi 3)))))
+        (λ i. le-leb trans m l i && (eqb (t % 16) 15 && (((true && self (hi 0) i) && is_alike (hi 0) (hi 1)) && is_alike (hi 0) (hi 2) && is_alike (hi 0) (hi 3))))
       where
-        by : (a b d : Bool) → (a && (b && d)) ≡ (true && (true && (((true && true) && a) && b && d)))
-        by true b d = refl
-        by false b d = refl
+        by : (e a b d : Bool) → (e && (a && (b && d))) ≡ (true && (e && (((true && true) && a) && b && d)))
+        by false a b d = refl
+        by true true b d = refl
+        by true false b d = refl
 
 -- rule 14 on the group that ends at a quadword, question by question
 module _ (w : List ℕ) (at n t : ℕ) (e : Ends w at n) where
@@ -340,12 +320,7 @@ kept_none t =
     let d : 0 ≡ 0 * t.literals = omega arith in
     λ i. record { taken = a i; issued = b i; literals = d i }
 
--- the clause's slots lie in the buffer
-pub reach : (w : List ℕ) (s : Quadwords) (n : Slots) → lies_in (words (length w)) s (slots_length n) ≡ true → 2 * (s.0 + n.0) ≤ length w
-unfolding lies_in
-reach w s n h = omega (arith, leb-true (s.0 + n.0) (length w / 2) h)
-
--- where they end, as the code adds it up
+-- where a clause's slots end, as the code adds it up
 pub ended :
     (w : List ℕ) (s : Quadwords) (n : Slots) {q : Quadwords} → length w < 2 ^ 64 → 2 * (s.0 + n.0) ≤ length w → q ≡ quadwords_in_64 (slot_quadword s n)
     → q.0 ≡ s.0 + n.0
@@ -400,17 +375,13 @@ module _ (limits : Limits) (pixel : Bool) (w : List ℕ) (s : Quadwords) (n : Sl
   module _ {at setters : ℕ} {t : Tally} (r : Glancing at setters t) where
     -- no group is under way: the clause ends here
     pub glancing-done :
-        (push : Bool) → lies_in (words (length w)) s (slots_length n) ≡ true → at ≡ s.0 + n.0 → t.issued ≡ 0 → (not push || eqb setters 1) ≡ true
-        → Kept limits pixel push w s n
-    glancing-done push i e z h =
+        (kind : Kind) (place : Quadwords) (push : Bool) → 2 * (s.0 + n.0) ≤ length w → pixel ≡ is_pixel kind → at ≡ s.0 + n.0 → t.issued ≡ 0
+        → (not push || eqb setters 1) ≡ true → Accepted ≡ first_broken (clause_checks kind push limits w place s n)
+    glancing-done kind place push i p e z h =
         let m = size_is (highs r.g) r.j t.issued (few_there limits (lows r.g) (highs r.g) r.j t r.clear) r.counts in
         let none : r.j ≡ 0 = omega (arith, m, z) in
         let end : n.0 ≤ r.g.0 = omega (arith, none, e, r.at-is) in
-        record {
-          accepts =
-              λ kind place p.
-              clause-done pixel limits w place s n kind push i p (r.along place) end (push_one push setters place h);
-        }
+        clause-done pixel limits w place s n kind push (reached w s n i) p (r.along place) end (push_one push setters place h)
 
     pub issued-small : t.issued < 2 ^ 31
     issued-small = issued_few (highs r.g) r.j t.issued (few_there limits (lows r.g) (highs r.g) r.j t r.clear) r.counts
@@ -541,7 +512,7 @@ module _ (limits : Limits) (pixel : Bool) (w : List ℕ) (s : Quadwords) (n : Sl
           clean : fault_of (seen_of limits (lows r.g) (highs r.g) (size_of w q left)) (size_of w q left) (may_kill pixel n (slot_behind r.g (span_of w q left))) ≡ Clean
           clean =
               sym
-              (breaks-none (clear_seen more.literals more.taken (issues_of (lows r.g) (highs r.g) (r.j + 1))) (r.j + 1) (pixel && eqb (at + 1 + more.literals) (s.0 + n.0)) refl refl refl refl keeps refl
+              (breaks-none (clear_seen more.literals more.taken (issues_of (lows r.g) (highs r.g) (r.j + 1))) (r.j + 1) (pixel && eqb (at + 1 + more.literals) (s.0 + n.0)) refl refl refl keeps refl
               ∙
               (λ i.
               fault_of ((clear-here ∙ ap (seen_of limits (lows r.g) (highs r.g)) (sym size-now)) i) (sym size-now i) (pixel && end_is i)))

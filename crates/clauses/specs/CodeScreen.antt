@@ -1,17 +1,12 @@
--- What is kept of a clause's groups at a glance, and what is known of a clause that passes. It is for the code alone.
+-- What is kept of a clause's groups at a glance. It is for the code alone.
 use Rattle.std.specs.Prelude.{◌≡◌, ℕ, ◌+◌, ◌-◌, ◌*◌, ◌/◌, ◌%◌, ◌^◌, ◌≤◌, Bool, true, cond, ◌||◌, List, length, ◌==◌}
 use Rattle.units.specs.declared.Quadwords.{Quadwords}
-use Rattle.units.specs.declared.Slots.{Slots}
 use Rattle.units.specs.Units.{quadwords}
-use Rattle.checks.specs.declared.Verdict.TheVariants.{Accepted}
-use Rattle.checks.specs.Checks.{first_broken}
-use Rattle.card.specs.declared.Kind.{Kind}
 use Rattle.formats.specs.Fields.{◌of◌, BANK_SWIZZLE}
-use Rattle.grants.specs.declared.Limits.{Limits}
 use Rattle.groups.specs.Code.{Taken, bad_unit, occupied, tally_of}
 use Rattle.screens.specs.Code.{broken_by}
 use Rattle.clauses.specs.declared.screen.Tally.{Tally}
-use Rattle.clauses.specs.Clause.{high_of, is_pixel, clause_checks}
+use Rattle.clauses.specs.Clause.{high_of}
 
 abbrev pub no_tally : Tally
 no_tally = record { taken = 0; issued = 0; literals = 0 }
@@ -42,8 +37,3 @@ pub record Ends (w : List ℕ) (at n : ℕ) : Type 0 where
   pub some : size_in n ≤ at + 1
   pub inside : 2 * at + 2 ≤ length w
   pub counts : n ≡ tally_of (high_of w (first_of at n)) (size_in n)
-
--- the clause breaks nothing
-pub record Kept (limits : Limits) (pixel push : Bool) (w : List ℕ) (s : Quadwords) (n : Slots) : Type 0 where
-  pub accepts :
-      (kind : Kind) (place : Quadwords) → pixel ≡ is_pixel kind → Accepted ≡ first_broken (clause_checks kind push limits w place s n)

@@ -1,18 +1,15 @@
 // Rules 10 to 15 on an ALU clause, group by group: document 01, "Groups of ALU slots".
 #![tactic(auto)]
 
-ghost use Rattle.std.specs.Prelude.{◌≡◌, true, length};
+ghost use Rattle.std.specs.Prelude.{◌≡◌, ◌+◌, ◌*◌, ◌<◌, ◌≤◌, length};
 ghost use Rattle.checks.specs.Checks.{first_broken};
-ghost use Rattle.checks.specs.declared.Place.TheVariants.{Quadword};
-ghost use Rattle.checks.specs.declared.Verdict.TheVariants.{Refused};
-ghost use Rattle.card.specs.declared.Kind.{Kind};
 ghost use Rattle.units.specs.Units as counts;
 ghost use Rattle.clauses.specs.Clause.{is_pixel, clause_checks};
-ghost use Rattle.clauses.specs.CodeRead.{step_of, group_of, no_group, push_verdict, Readable};
+ghost use Rattle.clauses.specs.CodeRead.{step_of, group_of, push_verdict};
 
 use bits::read;
 use card::Kind;
-use checks::{Place, Verdict};
+use checks::{Place, Refusal, Verdict};
 use formats::fields;
 use grants::Limits;
 use groups::counts::Count;
@@ -21,22 +18,39 @@ use units::{Quadwords, Slots, Words};
 
 mod screen;
 
-// What a group comes to: the slots that it takes and the setters in it; or what it breaks, and how many slots behind its first.
+// A clause of `slots` slots from `start` on, and what it is granted; its opener stands at `place` and is PUSH_BEFORE or not.
 #[derive(Clone, Copy)]
-enum Step {
-    Passed(Slots, Count),
-    Broken(u8, Slots),
+struct AluClause<'a> {
+    pub words: &'a [u32],
+    pub place: Quadwords,
+    pub start: Quadwords,
+    pub slots: Slots,
+    pub push_before: bool,
+    pub kind: Kind,
+    pub limits: Limits,
+    ghost inside: { 2 * (start.0 + slots.0) ≤ length words.now },
 }
 
-// A group as it was read: how many instructions it has, 0 where none of five or of those left in the clause has LAST set.
+// A group as it was read: how many instructions it has, and what was seen of them.
 #[derive(Clone, Copy)]
 struct Group {
     pub size: Slots,
     pub seen: Seen,
 }
 
-// A clause of `slots` slots from `start` on, whose opener stands at `place` and is PUSH_BEFORE or not: the first broken check of rules 10
-// to 15.
+// A group that breaks nothing: the slots that it takes and the setters in it.
+#[derive(Clone, Copy)]
+struct Passed {
+    pub span: Slots,
+    pub setters: Count,
+}
+
+const BAD_SHAPE: GroupFault = GroupFault {
+    rule: 10,
+    behind: Slots(0),
+};
+
+// The first broken check of rules 10 to 15 in such a clause.
 pub fn alu_clause(
     words: &[u32],
     place: Quadwords,
@@ -50,139 +64,105 @@ pub fn alu_clause(
 {
     // Where the clause does not lie in the buffer, rule 6 has refused it.
     if !units::slots_lie_in(Words(words.len()), start, slots) {
-        return Verdict::Accepted;
+        return Ok(());
     }
-    let pixel = is_pixel(kind);
-    if screen::is_clean(words, start, slots, push_before, pixel, limits) {
-        return Verdict::Accepted;
+    let clause = AluClause {
+        words,
+        place,
+        start,
+        slots,
+        push_before,
+        kind,
+        limits,
+    };
+    if clause.is_clean() {
+        return Ok(());
     }
-    first_fault(words, place, start, slots, push_before, pixel, limits)
+    clause.first_fault()
 }
 
-// The same, group by group, with all that the first broken rule is told by.
-fn first_fault(
-    words: &[u32],
-    place: Quadwords,
-    start: Quadwords,
-    slots: Slots,
-    push_before: bool,
-    pixel: bool,
-    limits: Limits,
-) -> Verdict
-    requires { counts.lies_in (counts.words (length words.now)) start (counts.slots_length slots) ≡ true }
-    ensures { (kind : Kind) → pixel ≡ is_pixel kind → result ≡ first_broken (clause_checks kind push_before limits words.now place start slots) }
-{
-    let mut setters = Count::Nothing;
-    // The next group: the quadword of its first slot, and the slots left from there on.
-    let mut at = start;
-    let mut left = slots;
-    while units::is_slot_below(Slots(0), left) {
-        let step = judge_group(words, at, left, limits, pixel);
-        match step {
-            Step::Broken(rule, behind) => {
-                let passed = units::slots_left(slots, left);
-                return refused(rule, place, units::slot_behind(passed, behind));
+impl AluClause<'_> {
+    // The same, group by group, with all that the first broken rule is told by.
+    fn first_fault(&self) -> Verdict
+        ensures { result ≡ first_broken (clause_checks self.now.kind self.now.push_before self.now.limits self.now.words.now self.now.place self.now.start self.now.slots) }
+    {
+        let mut setters = Count::Nothing;
+        // The first slot of the next group.
+        let mut first = Slots(0);
+        while first < self.slots {
+            match self.judge_group(first) {
+                Ok(passed) => {
+                    setters = setters + passed.setters;
+                    first = units::slot_behind(first, passed.span);
+                }
+                Err(fault) => {
+                    return Err(Refusal {
+                        rule: fault.rule,
+                        place: Place::Quadword(self.place),
+                        slot: units::slot_behind(first, fault.behind),
+                    });
+                }
             }
-            Step::Passed(span, own) => {
-                setters = groups::counts::together(setters, own);
-                at = units::slot_quadword(at, span);
-                left = units::slots_left(left, span);
+        }
+        self.push_verdict(setters)
+    }
+
+    // The group whose first slot that is.
+    fn judge_group(&self, first: Slots) -> Result<Passed, GroupFault>
+        requires { first.0 < self.now.slots.0 }
+        ensures { result ≡ step_of self.now.limits (is_pixel self.now.kind) self.now.words.now (counts.slot_quadword self.now.start first) (counts.slots_left self.now.slots first) }
+    {
+        let left = units::slots_left(self.slots, first);
+        let group = self.read_group(first).ok_or(BAD_SHAPE)?;
+        let span = units::slot_behind(group.size, Slots(group.seen.literals as usize));
+        if left < span {
+            return Err(BAD_SHAPE);
+        }
+        groups::group_fault(group.seen, group.size, self.is_pixel() & (left <= span))?;
+        Ok(Passed {
+            span,
+            setters: group.seen.issues.setters,
+        })
+    }
+
+    // The same group, unless none of its first five instructions, or of those in the clause, has LAST set.
+    fn read_group(&self, first: Slots) -> Option<Group>
+        requires { first.0 < self.now.slots.0 }
+        ensures { result ≡ group_of self.now.limits self.now.words.now (counts.slot_quadword self.now.start first) (counts.slots_left self.now.slots first) }
+    {
+        let at = units::slot_quadword(self.start, first).0;
+        let left = units::slots_left(self.slots, first);
+        let first_high = self.words[2 * at + 1];
+        let mut seen = Seen::default();
+        for j in 0..left.0.min(5) {
+            let low = self.words[2 * (at + j)];
+            let high = self.words[2 * (at + j) + 1];
+            seen = groups::read_instruction(seen, self.limits, Slots(j), first_high, low, high);
+            if read(low, fields::LAST) == 1 {
+                return Some(Group {
+                    size: Slots(j + 1),
+                    seen,
+                });
             }
         }
+        None
     }
-    push_verdict(push_before, setters, place)
-}
 
-// The group whose first slot is quadword `at`, with so many slots left in its clause.
-fn judge_group(words: &[u32], at: Quadwords, left: Slots, limits: Limits, pixel: bool) -> Step
-    requires { Readable words.now at left }
-    ensures { result ≡ step_of limits pixel words.now at left }
-{
-    let group = read_group(words, at, left, limits);
-    let size = group.size;
-    let span = units::slot_behind(size, Slots(group.seen.literals as usize));
-    if !units::is_slot_below(Slots(0), size) {
-        return Step::Broken(10, Slots(0));
-    }
-    if units::is_slot_below(left, span) {
-        return Step::Broken(10, Slots(0));
-    }
-    let ends = !units::is_slot_below(span, left);
-    let fault = groups::group_fault(group.seen, size, pixel & ends);
-    match fault {
-        GroupFault::Broken(rule, behind) => Step::Broken(rule, behind),
-        GroupFault::Clean => {
-            let seen = group.seen;
-            let issues = seen.issues;
-            let own = issues.setters;
-            Step::Passed(span, own)
+    // Rule 14 after all groups: PUSH_BEFORE holds exactly one predicate setter.
+    #[tactic(auto, unfolding(crate::specs::CodeRead::push_verdict))]
+    fn push_verdict(&self, setters: Count) -> Verdict
+        ensures { result ≡ push_verdict self.now.push_before setters self.now.place }
+    {
+        if self.push_before & (setters != Count::One) {
+            return Err(Refusal::of_place(14, Place::Quadword(self.place)));
         }
+        Ok(())
     }
-}
 
-// The group whose first slot is quadword `at`, with so many slots left in its clause.
-fn read_group(words: &[u32], at: Quadwords, left: Slots, limits: Limits) -> Group
-    requires { Readable words.now at left }
-    ensures { result ≡ group_of limits words.now at left }
-{
-    // Words are counted plainly inside a group, whose instruction j starts 2j words behind its first.
-    let first = units::low_word(at).0;
-    let first_high = words[first + 1];
-    let mut seen = groups::none_seen();
-    let mut j = 0;
-    while j < 5 {
-        if !units::is_slot_below(Slots(j), left) {
-            return no_group();
-        }
-        let low = words[first + 2 * j];
-        let high = words[first + 2 * j + 1];
-        seen = groups::read_instruction(seen, limits, Slots(j), first_high, low, high);
-        j += 1;
-        if read(low, fields::LAST) == 1 {
-            return Group {
-                size: Slots(j),
-                seen,
-            };
-        }
-    }
-    no_group()
-}
-
-fn no_group() -> Group
-    ensures { result ≡ no_group }
-{
-    Group {
-        size: Slots(0),
-        seen: groups::none_seen(),
-    }
-}
-
-fn refused(rule: u8, place: Quadwords, slot: Slots) -> Verdict
-    ensures { result ≡ Refused rule (Quadword place) slot }
-{
-    Verdict::Refused {
-        rule,
-        place: Place::Quadword(place),
-        slot,
-    }
-}
-
-// Rule 14 after all groups: PUSH_BEFORE holds exactly one predicate setter.
-fn push_verdict(push_before: bool, setters: Count, place: Quadwords) -> Verdict
-    ensures { result ≡ push_verdict push_before setters place }
-{
-    if push_before & !groups::counts::is_one(setters) {
-        return refused(14, place, Slots(0));
-    }
-    Verdict::Accepted
-}
-
-fn is_pixel(kind: Kind) -> bool
-    ensures { result ≡ is_pixel kind }
-{
-    match kind {
-        Kind::Pixel => true,
-        Kind::Vertex => false,
-        Kind::Geometry => false,
+    #[tactic(auto, unfolding(crate::specs::Clause::is_pixel))]
+    fn is_pixel(&self) -> bool
+        ensures { result ≡ is_pixel self.now.kind }
+    {
+        matches!(self.kind, Kind::Pixel)
     }
 }

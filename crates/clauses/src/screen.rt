@@ -3,23 +3,24 @@
 //
 // The loop is the judge's innermost, and no branch in it goes by what packs mix but for two: an instruction with a literal, and a group with more
 // in it than plain instructions and one setter. Where a group ends is no branch: what was kept of it is masked away.
-ghost use Rattle.std.specs.Prelude.{◌≡◌, ◌+◌, ◌*◌, ◌/◌, ◌%◌, ◌^◌, ◌<◌, ◌≤◌, true, false, not, ◌&&◌, length, nat_lt};
-ghost use Rattle.units.specs.Units as counts;
+ghost use Rattle.std.specs.Prelude.{◌≡◌, ◌+◌, ◌*◌, ◌/◌, ◌%◌, ◌^◌, ◌<◌, true, false, not, ◌&&◌, length, nat_lt};
+ghost use Rattle.checks.specs.Checks.{first_broken};
+ghost use Rattle.checks.specs.Verdict.{Accepted};
+ghost use Rattle.units.specs.Units.{low_at, high_at};
 ghost use Rattle.formats.specs.Fields.{◌of◌, DST_CHAN};
 ghost use Rattle.instructions.specs.Instruction.{has_relative};
 ghost use Rattle.groups.specs.Group.{any_below};
 ghost use Rattle.groups.specs.Code.{unit_by, is_straight, Issued};
-ghost use Rattle.clauses.specs.Clause.{low_of, high_of};
-ghost use Rattle.clauses.specs.CodeScreen.{no_tally, is_wrong, with_one, kept_of, size_in, first_of, Ends, Kept};
+ghost use Rattle.clauses.specs.Clause.{low_of, high_of, clause_checks};
+ghost use Rattle.clauses.specs.CodeScreen.{is_wrong, with_one, kept_of, size_in, first_of, Ends};
 
+use crate::AluClause;
 use bits::read;
 use formats::fields;
-use grants::Limits;
 use groups::alu_units;
-use units::{Quadwords, Slots};
 
-// What is kept of the group that is being read.
-#[derive(Clone, Copy)]
+// What is kept of the group that is being read, nothing by default.
+#[derive(Clone, Copy, Default)]
 pub(crate) struct Tally {
     // The units taken, as bits.
     pub taken: u32,
@@ -28,56 +29,43 @@ pub(crate) struct Tally {
     pub literals: u32,
 }
 
-// Whether the clause of `slots` slots from `start` on breaks nothing. It may say no of one that doesn't.
-pub(crate) fn is_clean(
-    words: &[u32],
-    start: Quadwords,
-    slots: Slots,
-    push_before: bool,
-    pixel: bool,
-    limits: Limits,
-) -> bool
-    requires { counts.lies_in (counts.words (length words.now)) start (counts.slots_length slots) ≡ true }
-    ensures { result ≡ true → Kept limits pixel push_before words.now start slots }
-{
-    let starts = screens::gap_starts(limits);
-    let widths = screens::gap_widths(limits);
-    // The slots' quadwords are counted plainly from here on: each is read at its words' numbers, without a conversion and its cap.
-    let end = units::slot_quadword(start, slots).0;
-    let mut at = start.0;
-    let mut setters = 0;
-    let mut seen = none_seen();
-    while at < end {
-        let low = words[2 * at];
-        let high = words[2 * at + 1];
-        // Where the next instruction stands comes first: all that is asked of it waits for that.
-        let literals = screens::more_literals(seen.literals, low, high);
-        let last = read(low, fields::LAST);
-        let next = at + 1 + only_if(last, literals) as usize;
-        let code = instructions::class_code(high);
-        let unit = unit_of(seen.taken, code, high);
-        if is_wrong(&starts, &widths, seen.taken, code, unit, low, high) {
-            return false;
+impl AluClause<'_> {
+    // Whether the clause breaks nothing. It may say no of one that doesn't.
+    pub(crate) fn is_clean(&self) -> bool
+        ensures { result ≡ true → Accepted ≡ first_broken (clause_checks self.now.kind self.now.push_before self.now.limits self.now.words.now self.now.place self.now.start self.now.slots) }
+    {
+        let words = self.words;
+        let pixel = self.is_pixel();
+        let starts = screens::gap_starts(self.limits);
+        let widths = screens::gap_widths(self.limits);
+        // The slots' quadwords are counted plainly from here on: each is read at its words' numbers, without a conversion and its cap.
+        let end = units::slot_quadword(self.start, self.slots).0;
+        let mut at = self.start.0;
+        let mut setters = 0;
+        let mut seen = Tally::default();
+        // No range of slots is gone through: the loop passes over literals.
+        while at < end {
+            let low = words[2 * at];
+            let high = words[2 * at + 1];
+            // Where the next instruction stands comes first: all that is asked of it waits for that.
+            let literals = screens::more_literals(seen.literals, low, high);
+            let last = read(low, fields::LAST);
+            let next = at + 1 + only_if(last, literals) as usize;
+            let code = instructions::class_code(high);
+            let unit = unit_of(seen.taken, code, high);
+            if is_wrong(&starts, &widths, seen.taken, code, unit, low, high) {
+                return false;
+            }
+            let more = with_one(seen, code, unit, literals);
+            let issued = only_if(last, more.issued);
+            if breaks_14(words, at, more, issued, pixel & (next == end)) {
+                return false;
+            }
+            setters += (issued / 16 % 16) as usize;
+            seen = kept(1 - last, more);
+            at = next;
         }
-        let more = with_one(seen, code, unit, literals);
-        let issued = only_if(last, more.issued);
-        if breaks_14(words, at, more, issued, pixel & (next == end)) {
-            return false;
-        }
-        setters += (issued / 16 % 16) as usize;
-        seen = kept(1 - last, more);
-        at = next;
-    }
-    (at == end) & ((seen.issued == 0) & (!push_before | (setters == 1)))
-}
-
-fn none_seen() -> Tally
-    ensures { result ≡ no_tally }
-{
-    Tally {
-        taken: 0,
-        issued: 0,
-        literals: 0,
+        (at == end) & ((seen.issued == 0) & (!self.push_before | (setters == 1)))
     }
 }
 
@@ -86,7 +74,7 @@ fn only_if(bit: u32, x: u32) -> u32
     requires { bit < 2 }
     ensures { result ≡ bit * x }
 {
-    x & std::num::wrapping_sub_u32(0, bit)
+    x & bit.wrapping_neg()
 }
 
 // The unit that an instruction of this class gets.
@@ -169,32 +157,29 @@ fn breaks_counted(words: &[u32], at: usize, seen: Tally, may_kill: bool) -> bool
     if (0 < kills) & !may_kill {
         return true;
     }
-    let size = size_in(issued) as usize;
-    let first = at + 1 - size;
-    let movas = breaks_mova(words, first, size, issued);
-    movas | breaks_reduction(words, first, size, seen)
+    let first = at + 1 - size_in(issued) as usize;
+    let group = &words[2 * first..2 * at + 2];
+    breaks_mova(group, issued) | breaks_reduction(group, seen)
 }
 
-// No MOVA in a group with any relative bit set.
-fn breaks_mova(words: &[u32], first: usize, size: usize, issued: u32) -> bool
-    requires { 2 * (first + size) ≤ length words.now }
-    ensures { result ≡ (nat_lt 0 (issued / 4096 % 16) && any_below (λ j. has_relative (low_of words.now (counts.quadwords first) j) (high_of words.now (counts.quadwords first) j)) size) }
+// No MOVA in a group with any relative bit set; the words are the group's, here and in what follows.
+fn breaks_mova(group: &[u32], issued: u32) -> bool
+    ensures { result ≡ (nat_lt 0 (issued / 4096 % 16) && any_below (λ j. has_relative (low_at group.now j) (high_at group.now j)) (length group.now / 2)) }
 {
     if issued / 4096 % 16 == 0 {
         return false;
     }
-    has_relative(words, first, size)
+    has_relative(group)
 }
 
 // A reduction fills all four vector units.
-fn breaks_reduction(words: &[u32], first: usize, size: usize, seen: Tally) -> bool
-    requires { 2 * (first + size) ≤ length words.now }
-    ensures { result ≡ (nat_lt 0 (seen.issued / 65536) && not (is_straight (high_of words.now (counts.quadwords first)) size seen.taken)) }
+fn breaks_reduction(group: &[u32], seen: Tally) -> bool
+    ensures { result ≡ (nat_lt 0 (seen.issued / 65536) && not (is_straight (high_at group.now) (length group.now / 2) seen.taken)) }
 {
     if seen.issued / 65536 == 0 {
         return false;
     }
-    !is_straight(words, first, size, seen.taken)
+    !is_straight(group, seen.taken)
 }
 
 // The instructions of a group.
@@ -204,36 +189,22 @@ fn size_in(issued: u32) -> u32
     issued % 16 + issued / 16 % 16 + issued / 256 % 16 + issued / 4096 % 16 + issued / 65536
 }
 
-// Whether any relative bit is set in the group of `size` instructions from quadword `first` on.
-fn has_relative(words: &[u32], first: usize, size: usize) -> bool
-    requires { 2 * (first + size) ≤ length words.now }
-    ensures { result ≡ any_below (λ j. has_relative (low_of words.now (counts.quadwords first) j) (high_of words.now (counts.quadwords first) j)) size }
+// Whether any relative bit is set.
+fn has_relative(group: &[u32]) -> bool
+    ensures { result ≡ any_below (λ j. has_relative (low_at group.now j) (high_at group.now j)) (length group.now / 2) }
 {
-    let mut any = false;
-    let mut j = 0;
-    while j < size {
-        let low = words[2 * (first + j)];
-        let high = words[2 * (first + j) + 1];
-        any = any | instructions::has_relative(low, high);
-        j += 1;
-    }
-    any
+    group.chunks_exact(2).any(|pair| instructions::has_relative(pair[0], pair[1]))
 }
 
-// Whether its first four are in the four vector units and alike.
-fn is_straight(words: &[u32], first: usize, size: usize, taken: u32) -> bool
-    requires { 2 * (first + size) ≤ length words.now }
-    ensures { result ≡ is_straight (high_of words.now (counts.quadwords first)) size taken }
+// Whether the first four are in the four vector units and alike.
+fn is_straight(group: &[u32], taken: u32) -> bool
+    ensures { result ≡ is_straight (high_at group.now) (length group.now / 2) taken }
 {
-    if size < 4 {
+    let [_, one, _, second, _, third, _, fourth, ..] = group else {
         return false;
-    }
-    if taken % 16 != 15 {
-        return false;
-    }
-    let one = words[2 * first + 1];
-    let second = alu_units::is_alike(one, words[2 * first + 3]);
-    let third = alu_units::is_alike(one, words[2 * first + 5]);
-    let fourth = alu_units::is_alike(one, words[2 * first + 7]);
-    second & (third & fourth)
+    };
+    let second = alu_units::is_alike(*one, *second);
+    let third = alu_units::is_alike(*one, *third);
+    let fourth = alu_units::is_alike(*one, *fourth);
+    (taken % 16 == 15) & (second & (third & fourth))
 }
