@@ -12,10 +12,10 @@ use Rattle.card.specs.Written.{written}
 use Rattle.card.specs.declared.Kind.TheVariants.{Pixel, Vertex, Geometry}
 use Rattle.card.specs.declared.Build.TheVariants.{Production, Debug}
 use Rattle.card.specs.declared.Card.{Card}
-use Rattle.card.specs.declared.CardRead.{CardRead}
-use Rattle.card.specs.declared.CardRead.TheVariants.{Whole, BadLine}
-use Rattle.card.specs.declared.CardTest.{CardTest}
-use Rattle.card.specs.declared.CardTest.TheVariants as test
+use Rattle.card.specs.Card.{CardRead}
+use Rattle.card.specs.Card.{Whole, BadAt}
+use Rattle.card.specs.Made.{CardTest}
+use Rattle.card.specs.Made.{InRange}
 
 -- seven lines, each ended by one line feed
 abbrev seven : String → String → String → String → String → String → String → List ℕ
@@ -40,31 +40,31 @@ cards =
     -- the largest figures
     ∷ (seven "kind=gs" "build=debug" "gprs=124" "temps=4" "consts=256" "stack=32" "quads=8192", Whole (card_with Geometry Debug 124 4 256 32 8192) 68)
     -- a line that is missing, or not ended
-    ∷ ([], BadLine 1)
-    ∷ (text "kind=ps", BadLine 1)
-    ∷ (text "kind=vs\n", BadLine 2)
-    ∷ (take 64 copy, BadLine 7)
+    ∷ ([], BadAt 1)
+    ∷ (text "kind=ps", BadAt 1)
+    ∷ (text "kind=vs\n", BadAt 2)
+    ∷ (take 64 copy, BadAt 7)
     -- a line that is misspelt: a carriage return, another case, a blank, another key, an empty line
-    ∷ (seven "kind=ps\r" "build=production" "gprs=2" "temps=0" "consts=0" "stack=0" "quads=3", BadLine 1)
-    ∷ (seven "kind=PS" "build=production" "gprs=2" "temps=0" "consts=0" "stack=0" "quads=3", BadLine 1)
-    ∷ (seven "kind=ps" "build= production" "gprs=2" "temps=0" "consts=0" "stack=0" "quads=3", BadLine 2)
-    ∷ (seven "kind=ps" "build=production" "temps=0" "gprs=2" "consts=0" "stack=0" "quads=3", BadLine 3)
-    ∷ (text "\n" ++ copy, BadLine 1)
+    ∷ (seven "kind=ps\r" "build=production" "gprs=2" "temps=0" "consts=0" "stack=0" "quads=3", BadAt 1)
+    ∷ (seven "kind=PS" "build=production" "gprs=2" "temps=0" "consts=0" "stack=0" "quads=3", BadAt 1)
+    ∷ (seven "kind=ps" "build= production" "gprs=2" "temps=0" "consts=0" "stack=0" "quads=3", BadAt 2)
+    ∷ (seven "kind=ps" "build=production" "temps=0" "gprs=2" "consts=0" "stack=0" "quads=3", BadAt 3)
+    ∷ (text "\n" ++ copy, BadAt 1)
     -- a number that is none: empty, a leading zero, a sign, a figure behind it
-    ∷ (registers "gprs=" "temps=0", BadLine 3)
-    ∷ (registers "gprs=02" "temps=0", BadLine 3)
-    ∷ (registers "gprs=2" "temps=00", BadLine 4)
-    ∷ (registers "gprs=+2" "temps=0", BadLine 3)
-    ∷ (registers "gprs=2x" "temps=0", BadLine 3)
+    ∷ (registers "gprs=" "temps=0", BadAt 3)
+    ∷ (registers "gprs=02" "temps=0", BadAt 3)
+    ∷ (registers "gprs=2" "temps=00", BadAt 4)
+    ∷ (registers "gprs=+2" "temps=0", BadAt 3)
+    ∷ (registers "gprs=2x" "temps=0", BadAt 3)
     -- a number out of range, by itself and together with the one before
-    ∷ (registers "gprs=0" "temps=0", BadLine 3)
-    ∷ (registers "gprs=129" "temps=0", BadLine 3)
-    ∷ (registers "gprs=2" "temps=5", BadLine 4)
+    ∷ (registers "gprs=0" "temps=0", BadAt 3)
+    ∷ (registers "gprs=129" "temps=0", BadAt 3)
+    ∷ (registers "gprs=2" "temps=5", BadAt 4)
     ∷ (registers "gprs=126" "temps=2", Whole (card_with Pixel Production 126 2 0 0 3) 67)
-    ∷ (registers "gprs=126" "temps=3", BadLine 4)
+    ∷ (registers "gprs=126" "temps=3", BadAt 4)
     -- 2 more than 2^32 and than 2^64
-    ∷ (registers "gprs=4294967298" "temps=0", BadLine 3)
-    ∷ (registers "gprs=18446744073709551618" "temps=0", BadLine 3)
+    ∷ (registers "gprs=4294967298" "temps=0", BadAt 3)
+    ∷ (registers "gprs=18446744073709551618" "temps=0", BadAt 3)
     ∷ []
 
 cards_read : map (λ e. card_of e.0) cards ≡ map (λ e. e.1) cards
@@ -79,16 +79,16 @@ copy_written = refl
 -- cards that a caller makes, and the line out of range
 abbrev made : List (Card × CardTest)
 made =
-    (card_with Pixel Production 2 0 0 0 3, test.InRange)
-    ∷ (card_with Geometry Debug 124 4 256 32 8192, test.InRange)
-    ∷ (card_with Vertex Debug 0 5 257 33 0, test.BadLine 3)
-    ∷ (card_with Vertex Debug 129 5 257 33 0, test.BadLine 3)
-    ∷ (card_with Vertex Debug 128 5 257 33 0, test.BadLine 4)
-    ∷ (card_with Vertex Debug 126 3 257 33 0, test.BadLine 4)
-    ∷ (card_with Vertex Debug 125 3 257 33 0, test.BadLine 5)
-    ∷ (card_with Vertex Debug 125 3 256 33 0, test.BadLine 6)
-    ∷ (card_with Vertex Debug 125 3 256 32 0, test.BadLine 7)
-    ∷ (card_with Vertex Debug 125 3 256 32 8193, test.BadLine 7)
+    (card_with Pixel Production 2 0 0 0 3, InRange)
+    ∷ (card_with Geometry Debug 124 4 256 32 8192, InRange)
+    ∷ (card_with Vertex Debug 0 5 257 33 0, BadAt 3)
+    ∷ (card_with Vertex Debug 129 5 257 33 0, BadAt 3)
+    ∷ (card_with Vertex Debug 128 5 257 33 0, BadAt 4)
+    ∷ (card_with Vertex Debug 126 3 257 33 0, BadAt 4)
+    ∷ (card_with Vertex Debug 125 3 257 33 0, BadAt 5)
+    ∷ (card_with Vertex Debug 125 3 256 33 0, BadAt 6)
+    ∷ (card_with Vertex Debug 125 3 256 32 0, BadAt 7)
+    ∷ (card_with Vertex Debug 125 3 256 32 8193, BadAt 7)
     ∷ []
 
 cards_tested : map (λ e. test_of e.0) made ≡ map (λ e. e.1) made

@@ -2,63 +2,64 @@
 use mathlib.Core.Path.{◌≡◌, refl, ap, sym, ◌∙◌}
 use mathlib.Core.Bool.{Bool, true, false, cond}
 use mathlib.Core.List.{List, [], ◌∷◌, ◌++◌}
-use mathlib.Core.Option.{Option, none, some, map, none-ne-some}
+use Rattle.std.specs.Prelude.{Option, None, Some, option_map}
+use Rattle.std.proofs.lemmas.Option.{none-some}
 use Prim.Native.Nat.{ℕ, zero, suc}
 use native.Mathlib.Omega.{arith}
 use lib.Dec.{eqb}
 use lib.ListN.{length, length-append}
 use Rattle.card.specs.Text.{line_feed, found, first_line, behind_first, behind, line_of, lines_length, value_of, value_at, text, word_in, number_in}
 use Rattle.card.specs.Card.{kinds, builds, gprs_allowed, temps_allowed, consts_allowed, stack_allowed, quads_allowed, judged, ◌>>=◌, card_with, card_of}
-use Rattle.card.specs.declared.CardRead.{CardRead}
-use Rattle.card.specs.declared.CardRead.TheVariants.{Whole}
+use Rattle.card.specs.Card.{CardRead}
+use Rattle.card.specs.Card.{Whole}
 
 -- ---- one line
 
 -- with a byte before it
 abbrev pub before : ℕ → Option (List ℕ) → Option (List ℕ)
-before b o = map (λ t. b ∷ t) o
+before b o = option_map (λ t. b ∷ t) o
 
 -- a line that is ended by its line feed is there with more behind it, and what stood behind it, too
 abbrev Ahead : List ℕ → List ℕ → Type 0
 Ahead s more = (first_line (s ++ more) ≡ first_line s) × (behind_first (s ++ more) ≡ behind_first s ++ more)
 
-first_ahead : (s more l : List ℕ) → first_line s ≡ some l → Ahead s more
+first_ahead : (s more l : List ℕ) → first_line s ≡ Some l → Ahead s more
 unfolding first_line behind_first
-first_ahead [] more l h = absurd (none-ne-some l h)
+first_ahead [] more l h = absurd (none-some l h)
 first_ahead (b ∷ s) more l h = by (eqb b line_feed) h (first_line s) refl (λ t e. first_ahead s more t e)
   where
-    by : (x : Bool) → ◌≡◌ {A = Option (List ℕ)} (cond x (some []) (before b (first_line s))) (some l)
-        → (o : Option (List ℕ)) → first_line s ≡ o → ((t : List ℕ) → first_line s ≡ some t → Ahead s more)
-        → (◌≡◌ {A = Option (List ℕ)} (cond x (some []) (before b (first_line (s ++ more)))) (cond x (some []) (before b (first_line s))))
+    by : (x : Bool) → ◌≡◌ {A = Option (List ℕ)} (cond x (Some []) (before b (first_line s))) (Some l)
+        → (o : Option (List ℕ)) → first_line s ≡ o → ((t : List ℕ) → first_line s ≡ Some t → Ahead s more)
+        → (◌≡◌ {A = Option (List ℕ)} (cond x (Some []) (before b (first_line (s ++ more)))) (cond x (Some []) (before b (first_line s))))
         × (cond x (s ++ more) (behind_first (s ++ more)) ≡ cond x s (behind_first s) ++ more)
     by true h o e f = (refl, refl)
-    by false h none e f = absurd (none-ne-some l (sym (ap (before b) e) ∙ h))
-    by false h (some t) e f =
+    by false h None e f = absurd (none-some l (sym (ap (before b) e) ∙ h))
+    by false h (Some t) e f =
         let w = f t e in
         (ap (before b) w.0, w.1)
 
 -- nothing stands behind a line that is missing
-missing_nothing : (s : List ℕ) → first_line s ≡ none → behind_first s ≡ []
+missing_nothing : (s : List ℕ) → first_line s ≡ None → behind_first s ≡ []
 unfolding first_line behind_first
 missing_nothing [] h = refl
 missing_nothing (b ∷ s) h = by (eqb b line_feed) h (first_line s) refl (missing_nothing s)
   where
-    by : (x : Bool) → ◌≡◌ {A = Option (List ℕ)} (cond x (some []) (before b (first_line s))) none
-        → (o : Option (List ℕ)) → first_line s ≡ o → (first_line s ≡ none → behind_first s ≡ []) → cond x s (behind_first s) ≡ []
-    by true h o e f = absurd (none-ne-some [] (sym h))
-    by false h none e f = f e
-    by false h (some t) e f = absurd (none-ne-some (b ∷ t) (sym h ∙ ap (before b) e))
+    by : (x : Bool) → ◌≡◌ {A = Option (List ℕ)} (cond x (Some []) (before b (first_line s))) None
+        → (o : Option (List ℕ)) → first_line s ≡ o → (first_line s ≡ None → behind_first s ≡ []) → cond x s (behind_first s) ≡ []
+    by true h o e f = absurd (none-some [] (sym h))
+    by false h None e f = f e
+    by false h (Some t) e f = absurd (none-some (b ∷ t) (sym h ∙ ap (before b) e))
 
 -- ---- line by line
 
 -- a line is there where one behind it is
-earlier : (s l : List ℕ) → first_line (behind_first s) ≡ some l → (t : List ℕ) × (first_line s ≡ some t)
+earlier : (s l : List ℕ) → first_line (behind_first s) ≡ Some l → (t : List ℕ) × (first_line s ≡ Some t)
 unfolding first_line
 earlier s l h = by (first_line s) refl
   where
-    by : (o : Option (List ℕ)) → first_line s ≡ o → (t : List ℕ) × (first_line s ≡ some t)
-    by none e = absurd (none-ne-some l (sym (ap first_line (missing_nothing s e)) ∙ h))
-    by (some t) e = (t, e)
+    by : (o : Option (List ℕ)) → first_line s ≡ o → (t : List ℕ) × (first_line s ≡ Some t)
+    by None e = absurd (none-some l (sym (ap first_line (missing_nothing s e)) ∙ h))
+    by (Some t) e = (t, e)
 
 -- with more bytes behind: what stands behind k lines, the line that begins there, and what stands behind that
 abbrev Kept : List ℕ → List ℕ → ℕ → Type 0
@@ -66,7 +67,7 @@ Kept s more k =
     (behind k (s ++ more) ≡ behind k s ++ more) × (first_line (behind k (s ++ more)) ≡ first_line (behind k s))
     × (behind (suc k) (s ++ more) ≡ behind (suc k) s ++ more)
 
-kept : (s more : List ℕ) (k : ℕ) (l : List ℕ) → first_line (behind k s) ≡ some l → Kept s more k
+kept : (s more : List ℕ) (k : ℕ) (l : List ℕ) → first_line (behind k s) ≡ Some l → Kept s more k
 unfolding behind
 kept s more zero l h =
     let a = first_ahead s more l h in
@@ -97,7 +98,7 @@ unfolding card_of value_at line_of first_line behind
 card_of_lines_lem s = refl
 
 -- a card is read the same with more behind its seventh line
-pub card_ahead : (s more l : List ℕ) → line_of 7 s ≡ some l → card_of (s ++ more) ≡ card_of s
+pub card_ahead : (s more l : List ℕ) → line_of 7 s ≡ Some l → card_of (s ++ more) ≡ card_of s
 unfolding line_of lines_length behind
 card_ahead s more l h =
     let t5 = earlier (behind 5 s) l h in

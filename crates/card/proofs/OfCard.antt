@@ -3,7 +3,7 @@ use mathlib.Core.Path.{◌≡◌, refl, ap, sym, ◌∙◌, subst}
 use mathlib.Core.Bool.{Bool, true, false}
 use mathlib.Core.List.{List, [], ◌∷◌, ◌++◌}
 use Prim.Native.String.{String}
-use mathlib.Core.Option.{Option, none, some}
+use Rattle.std.specs.Prelude.{Option, None, Some}
 use mathlib.Core.Logic.{◌↔◌}
 use Prim.Native.Nat.{ℕ, ◌+◌, ◌≤◌}
 use native.Mathlib.Omega.{arith}
@@ -16,9 +16,11 @@ use Rattle.card.specs.Text.{text, behind, lines_length, value_at, word_in, numbe
 use Rattle.card.specs.Card.{line_says, kinds, builds, gprs_allowed, temps_allowed, consts_allowed, stack_allowed, quads_allowed, judged, ◌>>=◌, card_with, card_of}
 use Rattle.card.specs.Made.{first_not, test_of, Ranges}
 use Rattle.card.specs.declared.Card.{Card}
-use Rattle.card.specs.declared.CardRead.{CardRead}
-use Rattle.card.specs.declared.CardRead.TheVariants.{Whole, BadLine}
-use Rattle.card.specs.declared.CardTest.TheVariants as test
+use Rattle.card.specs.Card.{CardRead}
+use Rattle.card.specs.Card.{Whole, BadAt}
+use Rattle.card.specs.Card.{BadAt, bad_line}
+use Rattle.card.specs.declared.BadLine.{BadLine}
+use Rattle.card.specs.Made.{CardTest, InRange}
 use Rattle.card.proofs.OfFound.{found_some, number_some}
 use Rattle.card.proofs.OfLines.{lines_behind, lines_within}
 use Rattle.card.proofs.OfRows.{goes_on, past_1, past_2, past_3, past_4, past_5, past_6, past_7, card_lines_lem, tests_4, tests_5, tests_6, tests_7, tests_8, card_tests, holds_3, holds_4, holds_5, holds_6, holds_7}
@@ -27,26 +29,37 @@ use Rattle.card.proofs.OfRows.{goes_on, past_1, past_2, past_3, past_4, past_5, 
 
 -- each line of the bytes says what the card has, and the card takes n bytes
 pub record Says (s : List ℕ) (card : Card) (n : ℕ) : Type 0 where
-  pub kind_line : line_says s 1 "kind" (word_in kinds) ≡ some card.kind
-  pub build_line : line_says s 2 "build" (word_in builds) ≡ some card.build
-  pub gprs_line : line_says s 3 "gprs" (number_in gprs_allowed) ≡ some card.gprs
-  pub temps_line : line_says s 4 "temps" (number_in (temps_allowed card.gprs)) ≡ some card.temps
-  pub consts_line : line_says s 5 "consts" (number_in consts_allowed) ≡ some card.consts
-  pub stack_line : line_says s 6 "stack" (number_in stack_allowed) ≡ some card.stack
-  pub quads_line : line_says s 7 "quads" (number_in quads_allowed) ≡ some card.quads.0
+  pub kind_line : line_says s 1 "kind" (word_in kinds) ≡ Some card.kind
+  pub build_line : line_says s 2 "build" (word_in builds) ≡ Some card.build
+  pub gprs_line : line_says s 3 "gprs" (number_in gprs_allowed) ≡ Some card.gprs
+  pub temps_line : line_says s 4 "temps" (number_in (temps_allowed card.gprs)) ≡ Some card.temps
+  pub consts_line : line_says s 5 "consts" (number_in consts_allowed) ≡ Some card.consts
+  pub stack_line : line_says s 6 "stack" (number_in stack_allowed) ≡ Some card.stack
+  pub quads_line : line_says s 7 "quads" (number_in quads_allowed) ≡ Some card.quads.0
   pub taken : n ≡ lines_length 7 s
 
 -- an answer is one of its kinds
-read_apart : {card : Card} {n k : ℕ} → Whole card n ≡ BadLine k → ⊥
+read_apart : {card : Card} {n k : ℕ} → Whole card n ≡ BadAt k → ⊥
 read_apart e = impossible cc
 
-test_apart : {k : ℕ} → test.InRange ≡ test.BadLine k → ⊥
+-- and says what it was made of
+read_parts : {a b : Card} {m n : ℕ} → Whole a m ≡ Whole b n → (a ≡ b) × (m ≡ n)
+read_parts {a} {b} {m} {n} e =
+    let same : (a, m) ≡ (b, n) = cc in
+    (ap (λ (p : Card × ℕ). p.0) same, ap (λ (p : Card × ℕ). p.1) same)
+
+bad_parts : {A : Type 0} (k n : ℕ) → BadAt {A = A} k ≡ BadAt n → k ≡ n
+bad_parts k n e =
+    let same : bad_line k ≡ bad_line n = cc in
+    ap (λ (b : BadLine). b.0) same
+
+test_apart : {k : ℕ} → InRange ≡ BadAt k → ⊥
 test_apart e = impossible cc
 
 -- a whole card came through each line
-came : {A : Type 0} (k : ℕ) (o : Option A) (f : A → CardRead) {card : Card} {n : ℕ} → (judged k o >>= f) ≡ Whole card n → (a : A) × (o ≡ some a) × (f a ≡ Whole card n)
-came k none f h = absurd (read_apart (sym h))
-came k (some a) f h = (a, refl, h)
+came : {A : Type 0} (k : ℕ) (o : Option A) (f : A → CardRead) {card : Card} {n : ℕ} → (judged k o >>= f) ≡ Whole card n → (a : A) × (o ≡ Some a) × (f a ≡ Whole card n)
+came k None f h = absurd (read_apart (sym h))
+came k (Some a) f h = (a, refl, h)
 
 pub whole_says : (s : List ℕ) (card : Card) (n : ℕ) → card_of s ≡ Whole card n → Says s card n
 whole_says s card n h =
@@ -58,9 +71,8 @@ whole_says s card n h =
     let f = came 6 (line_says s 6 "stack" (number_in stack_allowed)) _ e.2 in
     let g = came 7 (line_says s 7 "quads" (number_in quads_allowed)) _ f.2 in
     let w : Whole (card_with a.0 b.0 c.0 d.0 e.0 f.0 g.0) (lines_length 7 s) ≡ Whole card n = g.2 in
-    let same : card_with a.0 b.0 c.0 d.0 e.0 f.0 g.0 ≡ card = cc in
-    let t : n ≡ lines_length 7 s = cc in
-    subst (λ (x : Card). Says s x n) {x = card_with a.0 b.0 c.0 d.0 e.0 f.0 g.0} same
+    let p = read_parts w in
+    subst (λ (x : Card). Says s x n) {x = card_with a.0 b.0 c.0 d.0 e.0 f.0 g.0} p.0
     (record {
       kind_line = a.1;
       build_line = b.1;
@@ -69,7 +81,7 @@ whole_says s card n h =
       consts_line = e.1;
       stack_line = f.1;
       quads_line = g.1;
-      taken = t;
+      taken = sym p.1;
     })
 
 pub says_whole : (s : List ℕ) (card : Card) (n : ℕ) → Says s card n → card_of s ≡ Whole card n
@@ -91,13 +103,13 @@ whole_exactly_if s card n = (whole_says s card n, says_whole s card n)
 -- ---- in range
 
 -- a number that is read is an allowed one
-allowed_line : (s : List ℕ) (k : ℕ) (key : String) (allowed : ℕ → Bool) {n : ℕ} → line_says s k key (number_in allowed) ≡ some n → allowed n ≡ true
+allowed_line : (s : List ℕ) (k : ℕ) (key : String) (allowed : ℕ → Bool) {n : ℕ} → line_says s k key (number_in allowed) ≡ Some n → allowed n ≡ true
 allowed_line s k key allowed e =
     let v = found_some (value_at k (text key ++ text "=") s) (number_in allowed) e in
     (number_some allowed v.0 v.2).1
 
 -- what is read whole passes the test of a card
-pub whole_in_range : (s : List ℕ) (card : Card) (n : ℕ) → card_of s ≡ Whole card n → test_of card ≡ test.InRange
+pub whole_in_range : (s : List ℕ) (card : Card) (n : ℕ) → card_of s ≡ Whole card n → test_of card ≡ InRange
 whole_in_range s card n h =
     let w = whole_says s card n h in
     card_tests card
@@ -108,7 +120,7 @@ whole_in_range s card n h =
     ∙ holds_7 card (allowed_line s 7 "quads" quads_allowed w.quads_line)
 
 -- a test that all lines pass was passed by the first, and by the rest
-passed : (n : ℕ) (t : Bool) (ts : List (ℕ × Bool)) → first_not ((n, t) ∷ ts) ≡ test.InRange → (t ≡ true) × (first_not ts ≡ test.InRange)
+passed : (n : ℕ) (t : Bool) (ts : List (ℕ × Bool)) → first_not ((n, t) ∷ ts) ≡ InRange → (t ≡ true) × (first_not ts ≡ InRange)
 passed n true ts h = (refl, h)
 passed n false ts h = absurd (test_apart (sym h))
 
@@ -121,7 +133,7 @@ in_range : (low high n : ℕ) → low ≤ n → n ≤ high → (from low to high
 in_range low high n l h = both_hold (leb low n) (leb n high) (le-leb low n l) (le-leb n high h)
 
 -- each line's test, of a card that passes
-pub range_tests : (card : Card) → test_of card ≡ test.InRange
+pub range_tests : (card : Card) → test_of card ≡ InRange
     → (gprs_allowed card.gprs ≡ true) × (temps_allowed card.gprs card.temps ≡ true) × (consts_allowed card.consts ≡ true) × (stack_allowed card.stack ≡ true) × (quads_allowed card.quads.0 ≡ true)
 range_tests card h =
     let t3 = passed 3 (gprs_allowed card.gprs) (tests_4 card) (sym (card_tests card) ∙ h) in
@@ -131,7 +143,7 @@ range_tests card h =
     let t7 = passed 7 (quads_allowed card.quads.0) (tests_8 card) t6.1 in
     (t3.0, t4.0, t5.0, t6.0, t7.0)
 
-pub range_figures : (card : Card) → test_of card ≡ test.InRange → Ranges card
+pub range_figures : (card : Card) → test_of card ≡ InRange → Ranges card
 range_figures card h =
     let t = range_tests card h in
     let gprs = ranged 1 128 card.gprs t.0 in
@@ -148,7 +160,7 @@ range_figures card h =
       quads_most = quads.1;
     }
 
-pub figures_range : (card : Card) → Ranges card → test_of card ≡ test.InRange
+pub figures_range : (card : Card) → Ranges card → test_of card ≡ InRange
 figures_range card w =
     card_tests card
     ∙ holds_3 card (in_range 1 128 card.gprs w.gprs_least w.gprs_most)
@@ -159,7 +171,7 @@ figures_range card w =
     ∙ holds_7 card (in_range 1 8192 card.quads.0 w.quads_least w.quads_most)
 
 -- a card passes the test exactly if its figures are in range
-pub in_range_exactly_if : (card : Card) → test_of card ≡ test.InRange ↔ Ranges card
+pub in_range_exactly_if : (card : Card) → test_of card ≡ InRange ↔ Ranges card
 in_range_exactly_if card = (range_figures card, figures_range card)
 
 -- ---- the bytes
@@ -181,12 +193,12 @@ whole_behind s card n h = ap (λ (k : ℕ). drop k s) (whole_says s card n h).ta
 
 -- a line is blamed by itself, or by a line behind it
 blamed : {A : Type 0} (k : ℕ) (o : Option A) (f : A → CardRead) (low high n : ℕ) → low ≤ k → k ≤ high
-    → ((a : A) → f a ≡ BadLine n → (low ≤ n) × (n ≤ high)) → (judged k o >>= f) ≡ BadLine n → (low ≤ n) × (n ≤ high)
-blamed k none f low high n l h g e = let q : k ≡ n = cc in (omega arith, omega arith)
-blamed k (some a) f low high n l h g e = g a e
+    → ((a : A) → f a ≡ BadAt n → (low ≤ n) × (n ≤ high)) → (judged k o >>= f) ≡ BadAt n → (low ≤ n) × (n ≤ high)
+blamed k None f low high n l h g e = let q : k ≡ n = bad_parts k n e in (omega arith, omega arith)
+blamed k (Some a) f low high n l h g e = g a e
 
 -- one of the seven lines
-pub bad_line_lem : (s : List ℕ) (n : ℕ) → card_of s ≡ BadLine n → (1 ≤ n) × (n ≤ 7)
+pub bad_line_lem : (s : List ℕ) (n : ℕ) → card_of s ≡ BadAt n → (1 ≤ n) × (n ≤ 7)
 bad_line_lem s n h =
     blamed 1 (line_says s 1 "kind" (word_in kinds)) _ 1 7 n (omega arith) (omega arith)
     (λ kind. blamed 2 (line_says s 2 "build" (word_in builds)) _ 1 7 n (omega arith) (omega arith)
@@ -199,12 +211,12 @@ bad_line_lem s n h =
     (sym (card_lines_lem s) ∙ h)
 
 blamed_test : (k : ℕ) (t : Bool) (ts : List (ℕ × Bool)) (low high n : ℕ) → low ≤ k → k ≤ high
-    → (first_not ts ≡ test.BadLine n → (low ≤ n) × (n ≤ high)) → first_not ((k, t) ∷ ts) ≡ test.BadLine n → (low ≤ n) × (n ≤ high)
-blamed_test k false ts low high n l h g e = let q : k ≡ n = cc in (omega arith, omega arith)
+    → (first_not ts ≡ BadAt n → (low ≤ n) × (n ≤ high)) → first_not ((k, t) ∷ ts) ≡ BadAt n → (low ≤ n) × (n ≤ high)
+blamed_test k false ts low high n l h g e = let q : k ≡ n = bad_parts k n e in (omega arith, omega arith)
 blamed_test k true ts low high n l h g e = g e
 
 -- one of the five lines with figures
-pub bad_figure : (card : Card) (n : ℕ) → test_of card ≡ test.BadLine n → (3 ≤ n) × (n ≤ 7)
+pub bad_figure : (card : Card) (n : ℕ) → test_of card ≡ BadAt n → (3 ≤ n) × (n ≤ 7)
 bad_figure card n h =
     blamed_test 3 (gprs_allowed card.gprs) (tests_4 card) 3 7 n (omega arith) (omega arith)
     (blamed_test 4 (temps_allowed card.gprs card.temps) (tests_5 card) 3 7 n (omega arith) (omega arith)

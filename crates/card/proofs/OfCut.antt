@@ -3,7 +3,9 @@
 use mathlib.Core.Path.{◌≡◌, refl, ap, sym, ◌∙◌}
 use mathlib.Core.Bool.{Bool, true, false, cond}
 use mathlib.Core.List.{List, [], ◌∷◌, ◌++◌}
-use mathlib.Core.Option.{Option, none, some, none-ne-some, some-injective, map-eq-some_iff}
+use Rattle.std.specs.Prelude.{Option, None, Some}
+use Rattle.std.proofs.lemmas.Option.{none-some, same_Some}
+use Rattle.card.proofs.OfFound.{mapped_some}
 use Prim.Native.Nat.{ℕ, zero, suc, pred, ◌+◌, ◌-◌, ◌^◌, ◌≤◌, ◌<◌}
 use Prim.Native.String.{String}
 use native.Mathlib.Omega.{arith}
@@ -16,8 +18,8 @@ use Rattle.ascii.proofs.OfDecimal.{fewer_digits}
 use Rattle.card.specs.Text.{text, found, line_feed, first_line, behind_first, behind, line_of, lines_length, same_as, value_of, begins_with, value_at, word_in, number_in, from◌to◌}
 use Rattle.card.specs.Card.{line_says, kinds, builds, gprs_allowed, temps_allowed, consts_allowed, stack_allowed, quads_allowed, judged, ◌>>=◌, card_with, card_of}
 use Rattle.card.specs.declared.Card.{Card}
-use Rattle.card.specs.declared.CardRead.{CardRead}
-use Rattle.card.specs.declared.CardRead.TheVariants.{Whole}
+use Rattle.card.specs.Card.{CardRead}
+use Rattle.card.specs.Card.{Whole}
 use Rattle.card.proofs.OfFound.{found_some, tested_some, number_some}
 use Rattle.card.proofs.OfLines.{lines_place}
 use Rattle.card.proofs.OfKeys.{same_text}
@@ -30,15 +32,15 @@ use Rattle.card.proofs.OfBehind.{before}
 
 -- the first line of the first m bytes is the first line, or none where that is cut
 abbrev cut : ℕ → Option (List ℕ) → Option (List ℕ)
-cut m none = none
-cut m (some l) = cond (ltb (length l) m) (some l) none
+cut m None = None
+cut m (Some l) = cond (ltb (length l) m) (Some l) None
 
 cut_before : (m b : ℕ) (o : Option (List ℕ)) → before b (cut m o) ≡ cut (suc m) (before b o)
-cut_before m b none = refl
-cut_before m b (some l) = by (ltb (length l) m) refl
+cut_before m b None = refl
+cut_before m b (Some l) = by (ltb (length l) m) refl
   where
     by : (x : Bool) → ltb (length l) m ≡ x
-        → before b (cond x (some l) none) ≡ cond (ltb (suc (length l)) (suc m)) (some (b ∷ l)) none
+        → before b (cond x (Some l) None) ≡ cond (ltb (suc (length l)) (suc m)) (Some (b ∷ l)) None
     by true e = rw (lt-ltb (suc (length l)) (suc m) (omega (arith, ltb-true (length l) m e)))
     by false e = rw (le-ltb (suc (length l)) (suc m) (omega (arith, ltb-false (length l) m e)))
 
@@ -46,31 +48,31 @@ first_cut : (m : ℕ) (u : List ℕ) → first_line (take m u) ≡ cut m (first_
 unfolding first_line
 first_cut zero u = by (first_line u)
   where
-    by : (o : Option (List ℕ)) → none ≡ cut 0 o
-    by none = refl
-    by (some l) = rw (le-ltb (length l) 0 (omega arith))
+    by : (o : Option (List ℕ)) → None ≡ cut 0 o
+    by None = refl
+    by (Some l) = rw (le-ltb (length l) 0 (omega arith))
 first_cut (suc m) [] = refl
 first_cut (suc m) (b ∷ u) = by (eqb b line_feed) (first_cut m u)
   where
     by : (x : Bool) → first_line (take m u) ≡ cut m (first_line u)
-        → cond x (some []) (before b (first_line (take m u))) ≡ cut (suc m) (cond x (some []) (before b (first_line u)))
+        → cond x (Some []) (before b (first_line (take m u))) ≡ cut (suc m) (cond x (Some []) (before b (first_line u)))
     by true f = rw (lt-ltb 0 (suc m) (omega arith))
     by false f = ap (before b) f ∙ cut_before m b (first_line u)
 
 -- a line with its line feed is a part of the bytes, and the rest stands behind it
-line_part : (u l : List ℕ) → first_line u ≡ some l → (suc (length l) ≤ length u) × (behind_first u ≡ drop (suc (length l)) u)
+line_part : (u l : List ℕ) → first_line u ≡ Some l → (suc (length l) ≤ length u) × (behind_first u ≡ drop (suc (length l)) u)
 unfolding first_line behind_first
-line_part [] l h = absurd (none-ne-some l h)
+line_part [] l h = absurd (none-some l h)
 line_part (b ∷ u) l h = by (eqb b line_feed) h (line_part u)
   where
-    by : (x : Bool) → ◌≡◌ {A = Option (List ℕ)} (cond x (some []) (before b (first_line u))) (some l)
-        → ((r : List ℕ) → first_line u ≡ some r → (suc (length r) ≤ length u) × (behind_first u ≡ drop (suc (length r)) u))
+    by : (x : Bool) → ◌≡◌ {A = Option (List ℕ)} (cond x (Some []) (before b (first_line u))) (Some l)
+        → ((r : List ℕ) → first_line u ≡ Some r → (suc (length r) ≤ length u) × (behind_first u ≡ drop (suc (length r)) u))
         → (suc (length l) ≤ suc (length u)) × (cond x u (behind_first u) ≡ drop (length l) u)
     by true h f =
-        let q : [] ≡ l = some-injective [] l h in
+        let q : [] ≡ l = same_Some [] l h in
         (omega (arith, ap length q), ap (λ (x : List ℕ). drop (length x) u) q)
     by false h f =
-        let m = (map-eq-some_iff (λ (r : List ℕ). b ∷ r) (first_line u)).0 h in
+        let m = mapped_some (λ (r : List ℕ). b ∷ r) (first_line u) h in
         let w = f m.0 m.1 in
         (omega (arith, w.0, ap length m.2), w.1 ∙ ap (λ (x : List ℕ). drop (length x) u) m.2)
 
@@ -82,10 +84,10 @@ says key allowed o = found (found o (value_of key)) allowed
 
 -- with its key, no value that is allowed takes more than so many bytes
 abbrev Short : {A : Type 0} → List ℕ → (List ℕ → Option A) → ℕ → Type 0
-Short {A} key allowed most = (v : List ℕ) (a : A) → allowed v ≡ some a → length key + length v ≤ most
+Short {A} key allowed most = (v : List ℕ) (a : A) → allowed v ≡ Some a → length key + length v ≤ most
 
 module _ {A : Type 0} (key : List ℕ) (allowed : List ℕ → Option A) (most : ℕ) (bound : Short key allowed most) where
-  said_short : (l : List ℕ) (a : A) → says key allowed (some l) ≡ some a → length l ≤ most
+  said_short : (l : List ℕ) (a : A) → says key allowed (Some l) ≡ Some a → length l ≤ most
   unfolding value_of
   said_short l a h =
       let v = found_some (value_of key l) allowed h in
@@ -94,16 +96,16 @@ module _ {A : Type 0} (key : List ℕ) (allowed : List ℕ → Option A) (most :
 
   -- so a cut does not change what it says
   says_cut : (m : ℕ) → most < m → (o : Option (List ℕ)) → says key allowed (cut m o) ≡ says key allowed o
-  says_cut m h none = refl
-  says_cut m h (some l) = by (ltb (length l) m) refl
+  says_cut m h None = refl
+  says_cut m h (Some l) = by (ltb (length l) m) refl
     where
-      by_said : m ≤ length l → (r : Option A) → says key allowed (some l) ≡ r → none ≡ r
-      by_said k none e = refl
-      by_said k (some a) e = absurd (omega (arith, said_short l a e))
+      by_said : m ≤ length l → (r : Option A) → says key allowed (Some l) ≡ r → None ≡ r
+      by_said k None e = refl
+      by_said k (Some a) e = absurd (omega (arith, said_short l a e))
 
-      by : (x : Bool) → ltb (length l) m ≡ x → says key allowed (cond x (some l) none) ≡ says key allowed (some l)
+      by : (x : Bool) → ltb (length l) m ≡ x → says key allowed (cond x (Some l) None) ≡ says key allowed (Some l)
       by true e = refl
-      by false e = by_said (ltb-false (length l) m e) (says key allowed (some l)) refl
+      by false e = by_said (ltb-false (length l) m e) (says key allowed (Some l)) refl
 
 -- ---- what a line allows is short
 
@@ -112,25 +114,25 @@ abbrev Within : {A : Type 0} → ℕ → List (String × A) → Type 0
 Within most [] = Unit {0}
 Within most (w ∷ ws) = (length (text w.0) ≤ most) × Within most ws
 
-word_short : {A : Type 0} (most : ℕ) (ws : List (String × A)) → Within most ws → (v : List ℕ) (a : A) → word_in ws v ≡ some a
+word_short : {A : Type 0} (most : ℕ) (ws : List (String × A)) → Within most ws → (v : List ℕ) (a : A) → word_in ws v ≡ Some a
     → length v ≤ most
 unfolding word_in
-word_short most [] w v a h = absurd (none-ne-some a h)
+word_short most [] w v a h = absurd (none-some a h)
 word_short most (x ∷ ws) w v a h = by (same_as v (text x.0)) refl h (word_short most ws w.1 v a)
   where
-    by : (t : Bool) → same_as v (text x.0) ≡ t → cond t (some x.1) (word_in ws v) ≡ some a
-        → (word_in ws v ≡ some a → length v ≤ most) → length v ≤ most
+    by : (t : Bool) → same_as v (text x.0) ≡ t → cond t (Some x.1) (word_in ws v) ≡ Some a
+        → (word_in ws v ≡ Some a → length v ≤ most) → length v ≤ most
     by true e h f = omega (arith, ap length (same_text v (text x.0) e), w.0)
     by false e h f = f h
 
 -- a number below ten to the power d + 1 has at most d + 1 digits
 number_short : (d : ℕ) (allowed : ℕ → Bool) → ((n : ℕ) → allowed n ≡ true → n < 10 ^ suc d) → (v : List ℕ) (n : ℕ)
-    → number_in allowed v ≡ some n → length v ≤ suc d
+    → number_in allowed v ≡ Some n → length v ≤ suc d
 number_short d allowed f v n h =
     let w = number_some allowed v h in
     omega (arith, ap length (number_text v n w.0), fewer_digits d n (f n w.1))
 
-figure_short : (low high d : ℕ) → high < 10 ^ suc d → (v : List ℕ) (n : ℕ) → number_in (from low to high) v ≡ some n
+figure_short : (low high d : ℕ) → high < 10 ^ suc d → (v : List ℕ) (n : ℕ) → number_in (from low to high) v ≡ Some n
     → length v ≤ suc d
 figure_short low high d h = number_short d (from low to high) (λ n a. (omega (arith, ranged low high n a)))
 
@@ -178,16 +180,16 @@ module _ {A : Type 0} (s : List ℕ) (all left k n : ℕ) (at : pred n ≡ k) (k
       ∙ says_cut (text key ++ text "=") allowed most bound (all - r.used) (omega (arith, r.enough)) (first_line rest)
       ∙ sym said_rest
 
-  line_next : (a : A) → line_says s n key allowed ≡ some a → Reaches s all (left - suc most) (suc k)
+  line_next : (a : A) → line_says s n key allowed ≡ Some a → Reaches s all (left - suc most) (suc k)
   unfolding behind
   line_next a e =
       let v = found_some (found (first_line rest) (value_of (text key ++ text "="))) allowed (sym said_rest ∙ e) in
       let f = found_some (first_line rest) (value_of (text key ++ text "=")) v.1 in
       let l = f.0 in
-      let said-it : said (some l) ≡ some a = ap (λ (o : Option (List ℕ)). found o allowed) f.2 ∙ v.2 in
+      let said-it : said (Some l) ≡ Some a = ap (λ (o : Option (List ℕ)). found o allowed) f.2 ∙ v.2 in
       let short : length l ≤ most = said_short (text key ++ text "=") allowed most bound l a said-it in
       let w = line_part rest l f.1 in
-      let uncut : cut (all - r.used) (some l) ≡ some l = rw (lt-ltb (length l) (all - r.used) (omega (arith, r.enough))) in
+      let uncut : cut (all - r.used) (Some l) ≡ Some l = rw (lt-ltb (length l) (all - r.used) (omega (arith, r.enough))) in
       let w' = line_part (behind k (take all s)) l (first_rest ∙ ap (cut (all - r.used)) f.1 ∙ uncut) in
       record {
         used = r.used + suc (length l);
@@ -203,8 +205,8 @@ module _ {A : Type 0} (s : List ℕ) (all left k n : ℕ) (at : pred n ≡ k) (k
   line_answers f g e = ap (λ o. judged n o >>= f) line_same ∙ by (line_says s n key allowed) refl
     where
       by : (o : Option A) → line_says s n key allowed ≡ o → (judged n o >>= f) ≡ (judged n o >>= g)
-      by none h = refl
-      by (some a) h = e a (line_next a h)
+      by None h = refl
+      by (Some a) h = e a (line_next a h)
 
 -- ---- the card of the first bytes
 

@@ -2,7 +2,7 @@
 use mathlib.Core.Path.{◌≡◌, refl, ap, ap₂, sym, ◌∙◌, subst}
 use mathlib.Core.Bool.{true, not, ◌&&◌, false≢true}
 use mathlib.Core.List.{List, [], ◌∷◌, ◌++◌}
-use mathlib.Core.Option.{some}
+use Rattle.std.specs.Prelude.{Some}
 use Prim.Native.Nat.{ℕ, ◌+◌, ◌-◌, ◌*◌, ◌/◌, ◌%◌, ◌^◌, ◌≤◌, ◌<◌}
 use native.Mathlib.Nat.{pow-succ', mul-le-mul_right, pow-le-pow_right, le_trans, lt_of_lt_of_le}
 use native.Mathlib.Omega.{arith}
@@ -42,7 +42,7 @@ is_decimal_lem = by_digits (λ n. is_decimal (decimal n) ≡ true) one more
         ap is_decimal (from_10 n h)
         ∙ decimal_end (decimal (n / 10)) (digit_of (n % 10)) d some-value (is_digit_lem (digit_of (n % 10)) (omega arith) (omega arith))
 
-pub decimal_read : (n : ℕ) → number_of (decimal n) ≡ some n
+pub decimal_read : (n : ℕ) → number_of (decimal n) ≡ Some n
 unfolding number_of
 decimal_read n = rw (is_decimal_lem n, read_back n)
 
@@ -122,7 +122,7 @@ decimals_same : (u v : List ℕ) → is_decimal u ≡ true → is_decimal v ≡ 
 decimals_same u v hu hv e = same_length u v (one_length u v hu hv e) (decimal_digits u hu) (decimal_digits v hv) e
 
 -- the text of a number that is read is the number in decimal
-pub number_text : (t : List ℕ) (n : ℕ) → number_of t ≡ some n → t ≡ decimal n
+pub number_text : (t : List ℕ) (n : ℕ) → number_of t ≡ Some n → t ≡ decimal n
 unfolding number_of
 number_text t n h =
     let w = tested_some (is_decimal t) h in

@@ -2,19 +2,18 @@
 use mathlib.Core.Path.{◌≡◌, refl, ap, sym, ◌∙◌}
 use mathlib.Core.Bool.{Bool, true, false, cond, not}
 use mathlib.Core.List.{List, [], ◌∷◌}
-use mathlib.Core.Option.{Option, none, some, map}
+use Rattle.std.specs.Prelude.{Option, None, Some, option_map}
+use Rattle.std.specs.List.{position, position_or_len}
+use Rattle.std.proofs.lemmas.Option.{none-some, cond_some}
 use Prim.Native.Nat.{ℕ, zero, suc, ◌+◌, ◌-◌, ◌≤◌, ◌<◌}
 use native.Mathlib.Nat.{zero-add}
 use native.Mathlib.Numerals.{add-one}
 use native.Mathlib.Omega.{arith}
-use borrow.Author.Tests.{eq-eqb, ne_eqb, eqb-true, eqb-false, not-true}
-use lib.Dec.{eqb}
+use borrow.Author.Tests.{eq-eqb, ne_eqb, lt-ltb, le-ltb, ltb-true, ltb-false}
+use lib.Dec.{eqb, ltb}
 use lib.ListN.{length, get_or, take, drop, length-drop}
-use lib.Seq.{drop-cons, drop-drop, length-take-le, get_or-take}
-use Rattle.laws.proofs.OfTests.{both, by_test_lem}
-use Rattle.card.specs.Text.{found, line_feed, line_end, first_line, behind_first, behind, lines_length, line_of, value_of, value_at}
-use Rattle.ascii.specs.Code.{feedless}
-use Rattle.card.specs.Code.{next_line, line_in}
+use lib.Seq.{drop-cons, drop-drop}
+use Rattle.card.specs.Text.{line_feed, line_end, first_line, behind_first, behind, lines_length}
 
 -- the bytes from a place to the end, as a part of them that the code takes
 abbrev pub part : List ℕ → ℕ → List ℕ
@@ -52,39 +51,33 @@ passed_all t i h w = omega (arith, w, end_within t)
 
 -- ---- the first line, and what stands behind it
 
--- no line feed: no line
-first_none : (t : List ℕ) → line_end t ≡ length t → first_line t ≡ none
+-- the line is what stands before the line feed
+first_end : (t : List ℕ) → first_line t ≡ cond (ltb (line_end t) (length t)) (Some (take (line_end t) t)) None
 unfolding line_end first_line
-first_none [] e = refl
-first_none (b ∷ t) e = by (eqb b line_feed) e (first_none t)
+first_end [] = refl
+first_end (b ∷ t) = by (eqb b line_feed) (first_end t)
   where
-    by : (x : Bool) → cond x 0 (suc (line_end t)) ≡ suc (length t) → (line_end t ≡ length t → first_line t ≡ none) → cond x (some []) (map (λ l. b ∷ l) (first_line t)) ≡ none
-    by true e h = absurd (omega arith)
-    by false e h = ap (map (λ (l : List ℕ). b ∷ l)) (h (omega arith))
+    by : (x : Bool) → first_line t ≡ cond (ltb (line_end t) (length t)) (Some (take (line_end t) t)) None
+        → cond x (Some []) (option_map (λ l. b ∷ l) (first_line t))
+        ≡ cond (ltb (cond x 0 (suc (line_end t))) (suc (length t))) (Some (take (cond x 0 (suc (line_end t))) (b ∷ t))) None
+    by true h = rw (lt-ltb 0 (suc (length t)) (omega arith))
+    by false h = ap (option_map (λ (l : List ℕ). b ∷ l)) h ∙ under (ltb (line_end t) (length t)) refl
+      where
+        under : (y : Bool) → ltb (line_end t) (length t) ≡ y
+            → option_map (λ (l : List ℕ). b ∷ l) (cond y (Some (take (line_end t) t)) None)
+            ≡ cond (ltb (suc (line_end t)) (suc (length t))) (Some (b ∷ take (line_end t) t)) None
+        under true e = rw (lt-ltb (suc (line_end t)) (suc (length t)) (omega (arith, ltb-true (line_end t) (length t) e)))
+        under false e = rw (le-ltb (suc (line_end t)) (suc (length t)) (omega (arith, ltb-false (line_end t) (length t) e)))
 
--- a line feed: the line is what stands before it
-first_some : (t : List ℕ) → (line_end t ≡ length t → ⊥) → first_line t ≡ some (line_in t)
-unfolding line_end first_line
-first_some [] e = absurd (e refl)
-first_some (b ∷ t) e = by (eqb b line_feed) e (first_some t)
+-- the place at which the code finds it
+end_place : (t : List ℕ) → position_or_len (λ b. eqb b line_feed) t ≡ line_end t
+unfolding line_end
+end_place [] = refl
+end_place (b ∷ t) = by (eqb b line_feed) (end_place t)
   where
-    by : (x : Bool) → (cond x 0 (suc (line_end t)) ≡ suc (length t) → ⊥) → ((line_end t ≡ length t → ⊥) → first_line t ≡ some (line_in t))
-        → cond x (some []) (map (λ l. b ∷ l) (first_line t)) ≡ some (take (cond x 0 (suc (line_end t))) (b ∷ t))
-    by true e h = refl
-    by false e h = ap (map (λ (l : List ℕ). b ∷ l)) (h (λ p. e (ap suc p)))
-
--- what refuses the line refuses it too where no line feed ends it
-pub line_refused : {A : Type 0} (t : List ℕ) (f : List ℕ → Option A) → f (line_in t) ≡ none → found (first_line t) f ≡ none
-line_refused t f e =
-    by_test_lem (eqb (line_end t) (length t))
-    (λ h. ap (λ o. found o f) (first_none t (eqb-true (line_end t) (length t) h)))
-    (λ h. ap (λ o. found o f) (first_some t (eqb-false (line_end t) (length t) h)) ∙ e)
-
-pub line_missing : {A : Type 0} (t : List ℕ) (f : List ℕ → Option A) → line_end t ≡ length t → found (first_line t) f ≡ none
-line_missing t f e = ap (λ o. found o f) (first_none t e)
-
-pub line_found : {A : Type 0} (t : List ℕ) (f : List ℕ → Option A) → (line_end t ≡ length t → ⊥) → found (first_line t) f ≡ f (line_in t)
-line_found t f e = ap (λ o. found o f) (first_some t e)
+    by : (x : Bool) → position_or_len (λ c. eqb c line_feed) t ≡ line_end t → cond (not x) (1 + position_or_len (λ c. eqb c line_feed) t) 0 ≡ cond x 0 (suc (line_end t))
+    by true h = refl
+    by false h = omega arith
 
 behind_end : (t : List ℕ) → behind_first t ≡ drop (line_end t + 1) t
 unfolding line_end behind_first
@@ -95,29 +88,36 @@ behind_end (b ∷ t) = by (eqb b line_feed) (behind_end t)
     by true h = refl
     by false h = h ∙ rw (add-one (line_end t), add-one (suc (line_end t)))
 
+-- what the code finds
+abbrev pub feed_at : List ℕ → Option ℕ
+feed_at t = position (λ b. eqb b line_feed) t
+
+feed_lem : (t : List ℕ) → feed_at t ≡ cond (ltb (line_end t) (length t)) (Some (line_end t)) None
+feed_lem t = ap (λ (n : ℕ). cond (ltb n (length t)) (Some n) None) (end_place t)
+
+pub no_line : (t : List ℕ) → feed_at t ≡ None → first_line t ≡ None
+no_line t h = first_end t ∙ by (ltb (line_end t) (length t)) (sym (feed_lem t) ∙ h)
+  where
+    by : (x : Bool) → ◌≡◌ {A = Option ℕ} (cond x (Some (line_end t)) None) None → ◌≡◌ {A = Option (List ℕ)} (cond x (Some (take (line_end t) t)) None) None
+    by true e = absurd (none-some (line_end t) (sym e))
+    by false e = refl
+
+pub record Ended (t : List ℕ) (n : ℕ) : Type 0 where
+  pub within : n < length t
+  pub line : first_line t ≡ Some (take n t)
+  pub rest : behind_first t ≡ drop (n + 1) t
+
+pub line_there : (t : List ℕ) (n : ℕ) → feed_at t ≡ Some n → Ended t n
+line_there t n h =
+    let w = cond_some (ltb (line_end t) (length t)) (line_end t) n (sym (feed_lem t) ∙ h) in
+    record {
+      within = omega (arith, w.1, ltb-true (line_end t) (length t) w.0);
+      line = first_end t ∙ rw (w.0, w.1);
+      rest = behind_end t ∙ ap (λ (k : ℕ). drop (k + 1) t) w.1;
+    }
+
 pub behind_within : (t : List ℕ) → length (behind_first t) ≤ length t
 behind_within t = omega (arith, ap length (behind_end t), length-drop (line_end t + 1) t)
-
--- a byte before which no line feed stands, and that is none itself, is one of the line
-module _ (t : List ℕ) (i : ℕ) (h : i < length t) (w : Passed t i) where
-  pub byte_inside : (get_or t i 0 ≡ line_feed → ⊥) → i < length (line_in t)
-  byte_inside e = omega (arith, passed_more t i h e w, length-take-le (line_end t) t (end_within t))
-
-  pub byte_same : (get_or t i 0 ≡ line_feed → ⊥) → get_or (line_in t) i 0 ≡ get_or t i 0
-  byte_same e = get_or-take (line_end t) t i 0 (omega (arith, passed_more t i h e w))
-
--- the line feed that ends the line is its last byte
-pub line_next : (t : List ℕ) → (line_end t ≡ length t → ⊥) → line_end t + 1 ≡ lines_length 1 t
-unfolding lines_length behind
-line_next t e = omega (arith, end_within t, ap length (behind_end t), length-drop (line_end t + 1) t, e)
-
--- bytes without a line feed are all of the line
-pub feedless_end : (t : List ℕ) → feedless t ≡ true → line_end t ≡ length t
-unfolding line_end
-feedless_end [] h = refl
-feedless_end (b ∷ t) h =
-    let w = both (not (eqb b line_feed)) (feedless t) h in
-    rw (not-true (eqb b line_feed) w.0) (ap suc (feedless_end t w.1))
 
 -- ---- one line after the other
 
@@ -148,36 +148,15 @@ lines_behind n s =
     let w = behind_drop n s in
     ap (λ (u : List ℕ). drop (length s - length u) s) w.1 ∙ by_length w.0 s ∙ sym w.1
 
-pub lines_none : (s : List ℕ) → 0 ≡ lines_length 0 s
-unfolding lines_length behind
-lines_none s = omega arith
-
 pub lines_within : (n : ℕ) (s : List ℕ) → lines_length n s ≤ length s
 unfolding lines_length
 lines_within n s = omega arith
+
+-- no more stands behind lines than there is
+pub behind_less : (n : ℕ) (s : List ℕ) → length (behind n s) ≤ length s
+behind_less n s = let w = behind_drop n s in omega (arith, ap length w.1, length-drop w.0 s)
 
 -- the place of a part that stands behind n lines
 pub lines_place : (n k : ℕ) (s : List ℕ) → k ≤ length s → drop k s ≡ behind n s → k ≡ lines_length n s
 unfolding lines_length
 lines_place n k s h e = omega (arith, length-drop k s, ap length e)
-
--- ---- the line that starts behind n lines
-
-module _ (s : List ℕ) (n start : ℕ) (at : start ≡ lines_length n s) where
-  pub start_within : start ≤ length s
-  start_within = omega (arith, at, lines_within n s)
-
-  start_behind : drop start s ≡ behind n s
-  start_behind = ap (λ k. drop k s) at ∙ lines_behind n s
-
-  -- it is line n + 1, as it is line 1 of what starts there
-  pub start_value : (key : List ℕ) → value_at 1 key (drop start s) ≡ value_at (suc n) key s
-  unfolding value_at line_of behind
-  start_value key = ap (λ u. found (first_line u) (value_of key)) start_behind
-
-  pub start_next : next_line s start ≡ lines_length (suc n) s
-  unfolding lines_length behind
-  start_next =
-      let e : length (drop start s) ≡ length (behind n s) = ap length start_behind in
-      let f : length (behind_first (drop start s)) ≡ length (behind_first (behind n s)) = ap (λ u. length (behind_first u)) start_behind in
-      omega (arith, at, length-drop start s, behind_within (behind n s))

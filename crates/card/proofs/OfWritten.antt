@@ -2,7 +2,9 @@
 use mathlib.Core.Path.{◌≡◌, refl, ap, sym, ◌∙◌}
 use mathlib.Core.Bool.{Bool, true, false, cond, not}
 use mathlib.Core.List.{List, [], ◌∷◌, ◌++◌, append_assoc}
-use mathlib.Core.Option.{Option, some, map, none-ne-some, some-injective, map-eq-some_iff}
+use Rattle.std.specs.Prelude.{Option, Some, option_map}
+use Rattle.std.proofs.lemmas.Option.{none-some, same_Some}
+use Rattle.card.proofs.OfFound.{mapped_some}
 use Prim.Native.Nat.{ℕ, pred}
 use Prim.Native.String.{String}
 use native.Mathlib.Omega.{arith}
@@ -23,8 +25,8 @@ use Rattle.card.specs.declared.Kind.TheVariants.{Pixel, Vertex, Geometry}
 use Rattle.card.specs.declared.Build.{Build}
 use Rattle.card.specs.declared.Build.TheVariants.{Production, Debug}
 use Rattle.card.specs.declared.Card.{Card}
-use Rattle.card.specs.declared.CardRead.TheVariants.{Whole}
-use Rattle.card.specs.declared.CardTest.TheVariants as test
+use Rattle.card.specs.Card.{Whole}
+use Rattle.card.specs.Made.{InRange}
 use Rattle.card.proofs.OfFound.{found_some, tested_some, number_some}
 use Rattle.card.proofs.OfLines.{lines_place}
 use Rattle.card.proofs.OfKeys.{begins_text, same_text, behind_joined}
@@ -33,7 +35,7 @@ use Rattle.card.proofs.OfCard.{whole_says, says_whole, range_tests, whole_behind
 
 -- ---- a line and its line feed
 
-first_of : (l r : List ℕ) → feedless l ≡ true → first_line (l ++ (line_feed ∷ r)) ≡ some l
+first_of : (l r : List ℕ) → feedless l ≡ true → first_line (l ++ (line_feed ∷ r)) ≡ Some l
 unfolding first_line
 first_of [] r h = refl
 first_of (b ∷ l) r h =
@@ -45,17 +47,17 @@ unfolding behind_first
 behind_of l r h = behind_joined l (line_feed ∷ r) h
 
 -- a text that has a first line is that line, a line feed and the rest
-line_text : (t l : List ℕ) → first_line t ≡ some l → t ≡ l ++ (line_feed ∷ behind_first t)
+line_text : (t l : List ℕ) → first_line t ≡ Some l → t ≡ l ++ (line_feed ∷ behind_first t)
 unfolding first_line behind_first
-line_text [] l h = absurd (none-ne-some l h)
+line_text [] l h = absurd (none-some l h)
 line_text (b ∷ t) l h = by (eqb b line_feed) refl h (line_text t)
   where
-    by : (x : Bool) → eqb b line_feed ≡ x → ◌≡◌ {A = Option (List ℕ)} (cond x (some []) (map (λ m. b ∷ m) (first_line t))) (some l)
-        → ((m : List ℕ) → first_line t ≡ some m → t ≡ m ++ (line_feed ∷ behind_first t)) → b ∷ t ≡ l ++ (line_feed ∷ cond x t (behind_first t))
+    by : (x : Bool) → eqb b line_feed ≡ x → ◌≡◌ {A = Option (List ℕ)} (cond x (Some []) (option_map (λ m. b ∷ m) (first_line t))) (Some l)
+        → ((m : List ℕ) → first_line t ≡ Some m → t ≡ m ++ (line_feed ∷ behind_first t)) → b ∷ t ≡ l ++ (line_feed ∷ cond x t (behind_first t))
     by true e h f =
-        ap (λ (n : ℕ). n ∷ t) (eqb-true b line_feed e) ∙ ap (λ (u : List ℕ). u ++ (line_feed ∷ t)) (some-injective [] l h)
+        ap (λ (n : ℕ). n ∷ t) (eqb-true b line_feed e) ∙ ap (λ (u : List ℕ). u ++ (line_feed ∷ t)) (same_Some [] l h)
     by false e h f =
-        let m = (map-eq-some_iff (λ (m : List ℕ). b ∷ m) (first_line t)).0 h in
+        let m = mapped_some (λ (m : List ℕ). b ∷ m) (first_line t) h in
         ap (λ (u : List ℕ). b ∷ u) (f m.0 m.1) ∙ ap (λ (u : List ℕ). u ++ (line_feed ∷ behind_first t)) m.2
 
 -- ---- a key and its value
@@ -65,13 +67,13 @@ unfolding begins_with
 begins_own [] v = refl
 begins_own (k ∷ key) v = both_hold (eqb k k) (begins_with key (key ++ v)) (eq-eqb k k refl) (begins_own key v)
 
-value_text : (key l v : List ℕ) → value_of key l ≡ some v → l ≡ key ++ v
+value_text : (key l v : List ℕ) → value_of key l ≡ Some v → l ≡ key ++ v
 unfolding value_of
 value_text key l v h =
     let w = tested_some (begins_with key l) h in
     begins_text key l w.0 ∙ ap (λ (u : List ℕ). key ++ u) w.1
 
-value_own : (key v : List ℕ) → value_of key (key ++ v) ≡ some v
+value_own : (key v : List ℕ) → value_of key (key ++ v) ≡ Some v
 unfolding value_of
 value_own key v = rw (begins_own key v, drop-append_seam key v)
 
@@ -79,7 +81,7 @@ value_own key v = rw (begins_own key v, drop-append_seam key v)
 
 module _ (s : List ℕ) (n k : ℕ) (at : pred n ≡ k) (key v : List ℕ) where
   -- a row that is read is key, value and line feed, and then what stands behind it
-  row_text : value_at n key s ≡ some v → behind k s ≡ key ++ v ++ (line_feed ∷ behind_first (behind k s))
+  row_text : value_at n key s ≡ Some v → behind k s ≡ key ++ v ++ (line_feed ∷ behind_first (behind k s))
   unfolding value_at line_of
   row_text h =
       let w = found_some (first_line (behind k s)) (value_of key) (ap (λ (i : ℕ). found (first_line (behind i s)) (value_of key)) (sym at) ∙ h) in
@@ -87,7 +89,7 @@ module _ (s : List ℕ) (n k : ℕ) (at : pred n ≡ k) (key v : List ℕ) where
 
   -- and the other way round
   module _ (r : List ℕ) (h : behind k s ≡ key ++ v ++ (line_feed ∷ r)) (f : feedless key ≡ true) (g : feedless v ≡ true) where
-    row_read : value_at n key s ≡ some v
+    row_read : value_at n key s ≡ Some v
     unfolding value_at line_of
     row_read =
         ap (λ (i : ℕ). found (first_line (behind i s)) (value_of key)) at
@@ -105,12 +107,12 @@ abbrev Named : {A : Type 0} → (A → String) → List (String × A) → Type 0
 Named name [] = Unit {0}
 Named name (w ∷ ws) = (text w.0 ≡ text (name w.1)) × Named name ws
 
-word_text : {A : Type 0} (name : A → String) (ws : List (String × A)) → Named name ws → (v : List ℕ) {a : A} → word_in ws v ≡ some a → v ≡ text (name a)
+word_text : {A : Type 0} (name : A → String) (ws : List (String × A)) → Named name ws → (v : List ℕ) {a : A} → word_in ws v ≡ Some a → v ≡ text (name a)
 unfolding word_in
-word_text name [] n v {a} h = absurd (none-ne-some a h)
+word_text name [] n v {a} h = absurd (none-some a h)
 word_text name (w ∷ ws) n v {a} h = by (same_as v (text w.0)) refl h (word_text name ws n.1 v)
   where
-    by : (x : Bool) → same_as v (text w.0) ≡ x → cond x (some w.1) (word_in ws v) ≡ some a → (word_in ws v ≡ some a → v ≡ text (name a)) → v ≡ text (name a)
+    by : (x : Bool) → same_as v (text w.0) ≡ x → cond x (Some w.1) (word_in ws v) ≡ Some a → (word_in ws v ≡ Some a → v ≡ text (name a)) → v ≡ text (name a)
     by true e h f =
         let q : w.1 ≡ a = cc in
         same_text v (text w.0) e ∙ n.0 ∙ ap (λ b. text (name b)) q
@@ -119,10 +121,10 @@ word_text name (w ∷ ws) n v {a} h = by (same_as v (text w.0)) refl h (word_tex
 abbrev kind_text : Kind → List ℕ
 kind_text k = text (kind_word k)
 
-kind_is_text : (v : List ℕ) (k : Kind) → word_in kinds v ≡ some k → v ≡ kind_text k
+kind_is_text : (v : List ℕ) (k : Kind) → word_in kinds v ≡ Some k → v ≡ kind_text k
 kind_is_text v k e = word_text kind_word kinds (refl, (refl, (refl, tt))) v e
 
-kind_read_lem : (k : Kind) → word_in kinds (kind_text k) ≡ some k
+kind_read_lem : (k : Kind) → word_in kinds (kind_text k) ≡ Some k
 unfolding word_in same_as
 kind_read_lem Pixel = refl
 kind_read_lem Vertex = refl
@@ -136,10 +138,10 @@ kind_feedless Geometry = refl
 abbrev build_text_lem : Build → List ℕ
 build_text_lem b = text (build_word b)
 
-build_is_text : (v : List ℕ) (b : Build) → word_in builds v ≡ some b → v ≡ build_text_lem b
+build_is_text : (v : List ℕ) (b : Build) → word_in builds v ≡ Some b → v ≡ build_text_lem b
 build_is_text v b e = word_text build_word builds (refl, (refl, tt)) v e
 
-build_read_lem : (b : Build) → word_in builds (build_text_lem b) ≡ some b
+build_read_lem : (b : Build) → word_in builds (build_text_lem b) ≡ Some b
 unfolding word_in same_as
 build_read_lem Production = refl
 build_read_lem Debug = refl
@@ -148,10 +150,10 @@ build_feedless : (b : Build) → feedless (build_text_lem b) ≡ true
 build_feedless Production = refl
 build_feedless Debug = refl
 
-allowed_text : (allowed : ℕ → Bool) (v : List ℕ) (n : ℕ) → number_in allowed v ≡ some n → v ≡ decimal n
+allowed_text : (allowed : ℕ → Bool) (v : List ℕ) (n : ℕ) → number_in allowed v ≡ Some n → v ≡ decimal n
 allowed_text allowed v n h = number_text v n (number_some allowed v h).0
 
-pub allowed_read : (allowed : ℕ → Bool) (n : ℕ) → allowed n ≡ true → number_in allowed (decimal n) ≡ some n
+pub allowed_read : (allowed : ℕ → Bool) (n : ℕ) → allowed n ≡ true → number_in allowed (decimal n) ≡ Some n
 unfolding number_in
 allowed_read allowed n h = rw (decimal_read n, h)
 
@@ -166,7 +168,7 @@ seven_join a b c d e f g r = simp append_assoc
 
 -- what line n says, as a row of the text
 module _ {A : Type 0} (s : List ℕ) (n k : ℕ) (at : pred n ≡ k) (key : String) (allowed : List ℕ → Option A) (name : A → List ℕ) where
-  says_row : ((v : List ℕ) (a : A) → allowed v ≡ some a → v ≡ name a) → (a : A) → line_says s n key allowed ≡ some a → behind k s ≡ row key (name a) ++ behind_first (behind k s)
+  says_row : ((v : List ℕ) (a : A) → allowed v ≡ Some a → v ≡ name a) → (a : A) → line_says s n key allowed ≡ Some a → behind k s ≡ row key (name a) ++ behind_first (behind k s)
   says_row f a h =
       let v = found_some (value_at n (text key ++ text "=") s) allowed h in
       row_text s n k at (text key ++ text "=") v.0 v.1
@@ -174,7 +176,7 @@ module _ {A : Type 0} (s : List ℕ) (n k : ℕ) (at : pred n ≡ k) (key : Stri
       ∙ sym (row_join key (name a) (behind_first (behind k s)))
 
   module _ (a : A) (r : List ℕ) (h : behind k s ≡ row key (name a) ++ r) (f : feedless (text key ++ text "=") ≡ true) (g : feedless (name a) ≡ true) where
-    row-says : allowed (name a) ≡ some a → line_says s n key allowed ≡ some a
+    row-says : allowed (name a) ≡ Some a → line_says s n key allowed ≡ Some a
     row-says e =
         ap (λ (o : Option (List ℕ)). found o allowed) (row_read s n k at (text key ++ text "=") (name a) r (h ∙ row_join key (name a) r) f g)
         ∙ e
@@ -254,7 +256,7 @@ read_written s card n h =
     b1 ∙ sym (written_rows card pack)
 
 -- a card that passes the test is read from its text, whatever stands behind
-pub written_read : (card : Card) (pack : List ℕ) → test_of card ≡ test.InRange → card_of (written card ++ pack) ≡ Whole card (length (written card))
+pub written_read : (card : Card) (pack : List ℕ) → test_of card ≡ InRange → card_of (written card ++ pack) ≡ Whole card (length (written card))
 unfolding behind
 written_read card pack h =
     let s = written card ++ pack in

@@ -1,18 +1,19 @@
--- What laws of lines, and of the crates above, ask of bytes. The public contracts need none of it.
-use Rattle.std.specs.Prelude.{ℕ, ◌+◌, Bool, true, false, not, List, [], ◌∷◌, eqb, take, drop}
+-- What private functions ask and answer. The public contracts need none of it.
+use Rattle.std.specs.Prelude.{ℕ, Bool, true, false, List, [], ◌∷◌, eqb}
 use Prim.Native.Char.{code}
-use Rattle.card.specs.Text.{line_end, lines_length}
+use Rattle.card.specs.declared.Kind.{Kind}
+use Rattle.card.specs.declared.Kind.TheVariants.{Pixel, Vertex, Geometry}
+use Rattle.card.specs.declared.Build.{Build}
+use Rattle.card.specs.declared.Build.TheVariants.{Production, Debug}
 
--- where the line behind the one that starts at a place starts
-abbrev pub next_line : List ℕ → ℕ → ℕ
-next_line s start = start + lines_length 1 (drop start s)
+abbrev pub every_kind : List Kind
+every_kind = Pixel ∷ Vertex ∷ Geometry ∷ []
 
--- the bytes before the first line feed; all where there is none
-abbrev pub line_in : List ℕ → List ℕ
-line_in t = take (line_end t) t
+abbrev pub every_build : List Build
+every_build = Production ∷ Debug ∷ []
 
--- what digits are that are a number: one, or several of which the first is not 0
-abbrev pub well_formed : List ℕ → Bool
-well_formed [] = false
-well_formed (b ∷ []) = true
-well_formed (b ∷ c ∷ t) = not (eqb b (code "0"))
+-- no byte, or a 0 with more behind it: no number, whatever stands behind
+abbrev pub malformed : List ℕ → Bool
+malformed [] = true
+malformed (b ∷ []) = false
+malformed (b ∷ c ∷ t) = eqb b (code "0")

@@ -6,9 +6,11 @@
 // The numbers of other texts NAME=number are read by the same function: `read_number`.
 #![tactic(auto)]
 
-ghost use Rattle.std.specs.Prelude.{◌≡◌, Some};
-ghost use Rattle.card.specs.Card.{kinds, builds, card_of};
-ghost use Rattle.card.specs.Text.{text, word_in};
+ghost use Rattle.std.specs.Prelude.{◌≡◌, Some, find, eqb};
+ghost use Rattle.std.specs.Cmp.Lexicographic.{pointwise};
+ghost use Rattle.card.specs.Card.{card_of};
+ghost use Rattle.card.specs.Code.{every_kind, every_build};
+ghost use Rattle.card.specs.Text.{text};
 ghost use Rattle.card.specs.Written.{kind_word, build_word};
 ghost use Rattle.card.specs.Made.{test_of};
 
@@ -41,11 +43,12 @@ impl Kind {
     }
 
     fn of_word(word: &[u8]) -> Option<Kind>
-        ensures { result ≡ word_in kinds word.now }
+        ensures { result ≡ find (λ kind. pointwise eqb word.now (text (kind_word kind))) every_kind }
     {
         [Kind::Pixel, Kind::Vertex, Kind::Geometry]
-            .into_iter()
-            .find(|kind| kind.word().as_bytes() == word)
+            .iter()
+            .copied()
+            .find(|kind| word == kind.word().as_bytes())
     }
 }
 
@@ -76,11 +79,12 @@ impl Build {
     }
 
     fn of_word(word: &[u8]) -> Option<Build>
-        ensures { result ≡ word_in builds word.now }
+        ensures { result ≡ find (λ build. pointwise eqb word.now (text (build_word build))) every_build }
     {
         [Build::Production, Build::Debug]
-            .into_iter()
-            .find(|build| build.word().as_bytes() == word)
+            .iter()
+            .copied()
+            .find(|build| word == build.word().as_bytes())
     }
 }
 

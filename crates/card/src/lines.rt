@@ -1,7 +1,7 @@
 // A line key=value at the beginning of bytes. Each function answers what the line says and what stands behind it, so that no line is told
 // where it starts; or the number of the line, where it is not exactly right.
-ghost use Rattle.std.specs.Prelude.{◌≡◌, MatchResult, Some, None};
-ghost use Rattle.card.specs.Text.{found, behind_first, value_at, number_in, from◌to◌};
+ghost use Rattle.std.specs.Prelude.{◌≡◌, ◌==◌, MatchResult, Some, None, position};
+ghost use Rattle.card.specs.Text.{line_feed, found, behind_first, value_at, number_in, from◌to◌};
 ghost use Rattle.card.specs.Card.{bad_line};
 
 use crate::limits::Limits;
@@ -15,12 +15,16 @@ pub(crate) fn value<'a>(
 ) -> Result<(&'a [u8], &'a [u8]), BadLine>
     ensures { MatchResult result (λ x. (value_at 1 key.now bytes.now ≡ Some x.0.now) × (x.1.now ≡ behind_first bytes.now)) (λ e. (value_at 1 key.now bytes.now ≡ None) × (e ≡ bad_line line)) }
 {
-    let end = bytes
-        .iter()
-        .position(|b| *b == b'\n')
-        .ok_or(BadLine(line))?;
+    let end = line_feed(bytes).ok_or(BadLine(line))?;
     let value = bytes[..end].strip_prefix(key).ok_or(BadLine(line))?;
     Ok((value, &bytes[end + 1..]))
+}
+
+// Where the first line feed stands.
+fn line_feed(bytes: &[u8]) -> Option<usize>
+    ensures { result ≡ position (λ b. b == line_feed) bytes.now }
+{
+    bytes.iter().position(|b| *b == b'\n')
 }
 
 // The number behind `key`, within limits.
@@ -34,9 +38,8 @@ pub(crate) fn number<'a>(
 {
     let (text, rest) = value(bytes, line, key)?;
     let n = read_number(text).ok_or(BadLine(line))?;
-    if limits.allow(n as usize) {
-        Ok((n, rest))
-    } else {
-        Err(BadLine(line))
+    if !limits.allow(n as usize) {
+        return Err(BadLine(line));
     }
+    Ok((n, rest))
 }
