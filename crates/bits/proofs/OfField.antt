@@ -1,9 +1,12 @@
 -- One field of a word replaced: the field reads as what was put there, every other field keeps its value. Assumes nothing.
-use mathlib.Core.Path.{◌≡◌, sym, ap, ap₂, ◌∙◌, subst}
+use mathlib.Core.Bool.{Bool, true, false, cond}
+use mathlib.Core.Path.{◌≡◌, refl, sym, ap, ap₂, ◌∙◌, subst}
 use mathlib.Core.Logic.{◌⊎◌, ⊎_elim}
 use Prim.Native.Nat.{ℕ, ◌+◌, ◌-◌, ◌*◌, ◌/◌, ◌%◌, ◌^◌, ◌≤◌, ◌<◌, max}
 use native.Mathlib.Nat.{add-zero, zero-add, zero-mul, div-eq_of_lt, lt_of_lt_of_le, add-mul, mul_assoc, mul_comm, add_assoc, add_comm, mod-lt, mod-mod, mod-eq_of_lt, mul-mod_left, sub-add_cancel}
 use native.Mathlib.Omega.{arith}
+use lib.Dec.{ltb}
+use borrow.Author.Tests.{ltb-true, ltb-false}
 use lib.Bits.{bit_or, or_step, or_zero_r, or_block}
 use lib.Pow.{pow_pos, pow-add, pow_mono, shl_exact, shr_lt, shr-shr, split, high, low, field, mod-pow-add, mod-mod-pow}
 use lib.Arith.{digits_lt}
@@ -102,6 +105,25 @@ lost n o l =
     ∙ ap (λ (x : ℕ). x % 2 ^ 32) (sym (mul_assoc n (2 ^ (o - 32)) (2 ^ 32)))
     ∙ mul-mod_left (n * 2 ^ (o - 32)) (2 ^ 32))
 
+-- and what is moved down by so much leaves nothing at all
+pub none_left : (n o : ℕ) → n < 2 ^ 32 → 32 ≤ o → 0 ≡ n / 2 ^ o
+none_left n o h l = sym (div-eq_of_lt (lt_of_lt_of_le h (pow_mono l)))
+
+-- the library's shifts, which answer 0 there
+pub moved_up : (n o : ℕ) → cond (ltb o 32) (n * 2 ^ o % 2 ^ 32) 0 ≡ lifted_of n o
+moved_up n o = by (ltb o 32) refl
+  where
+    by : (t : Bool) → ltb o 32 ≡ t → cond t (n * 2 ^ o % 2 ^ 32) 0 ≡ lifted_of n o
+    by true e = refl
+    by false e = lost n o (ltb-false o 32 e)
+
+pub moved_down : (n o : ℕ) → n < 2 ^ 32 → cond (ltb o 32) (n / 2 ^ o) 0 ≡ n / 2 ^ o
+moved_down n o h = by (ltb o 32) refl
+  where
+    by : (t : Bool) → ltb o 32 ≡ t → cond t (n / 2 ^ o) 0 ≡ n / 2 ^ o
+    by true e = refl
+    by false e = none_left n o h (ltb-false o 32 e)
+
 -- a field that ends behind bit 31 leaves nothing above it
 pub no_top : (n o w v : ℕ) → n < 2 ^ 32 → 32 ≤ o + w → with_field n o w v ≡ (v % 2 ^ w * 2 ^ o + n % 2 ^ o) % 2 ^ 32
 no_top n o w v h l =
@@ -122,16 +144,25 @@ behind n o w v h l =
 
 -- ---- one bit
 
--- joined by `|` with one bit, a word has that bit set
-pub bit_set : (n o : ℕ) → n < 2 ^ 32 → o < 32 → bit_or n (1 * 2 ^ o % 2 ^ 32) ≡ with_field n o 1 1
-bit_set n o h l =
-    let q = n / 2 ^ o in
-    let r = n % 2 ^ o in
-    let odd : bit_or q 1 ≡ q / 2 * 2 + 1 =
-    or_step q 1 ∙ ap (λ (x : ℕ). x * 2 + max (q % 2) (1 % 2)) (or_zero_r (q / 2)) ∙ (omega arith) in
-    let above : q / 2 ≡ n / 2 ^ (o + 1) = shr-shr n o 1 in
-    ap₂ bit_or (sym (split n o)) (shl_exact 1 o 32 (omega arith) (omega arith) ∙ sym (add-zero (1 * 2 ^ o)))
-    ∙ or_block o q 1 r 0 (mod-lt n (pow_pos o)) (pow_pos o)
-    ∙ ap₂ (λ (x y : ℕ). x * 2 ^ o + y) (odd ∙ ap (λ (x : ℕ). x * 2 + 1) above) (or_zero_r r)
-    ∙ sym (spliced_at n o 1 1)
-    ∙ sym (in_word n o 1 h (omega arith) 1)
+-- joined by `|` with one bit, a word has that bit set; there is none behind bit 31
+pub bit_set : (n o : ℕ) → n < 2 ^ 32 → bit_or n (lifted_of 1 o) ≡ with_field n o 1 1
+bit_set n o h = by (ltb o 32) refl
+  where
+    inside : o < 32 → bit_or n (lifted_of 1 o) ≡ with_field n o 1 1
+    inside l =
+        let q = n / 2 ^ o in
+        let r = n % 2 ^ o in
+        let odd : bit_or q 1 ≡ q / 2 * 2 + 1 =
+        or_step q 1 ∙ ap (λ (x : ℕ). x * 2 + max (q % 2) (1 % 2)) (or_zero_r (q / 2)) ∙ (omega arith) in
+        let above : q / 2 ≡ n / 2 ^ (o + 1) = shr-shr n o 1 in
+        ap₂ bit_or (sym (split n o)) (shl_exact 1 o 32 (omega arith) (omega arith) ∙ sym (add-zero (1 * 2 ^ o)))
+        ∙ or_block o q 1 r 0 (mod-lt n (pow_pos o)) (pow_pos o)
+        ∙ ap₂ (λ (x y : ℕ). x * 2 ^ o + y) (odd ∙ ap (λ (x : ℕ). x * 2 + 1) above) (or_zero_r r)
+        ∙ sym (spliced_at n o 1 1)
+        ∙ sym (in_word n o 1 h (omega arith) 1)
+
+    by : (t : Bool) → ltb o 32 ≡ t → bit_or n (lifted_of 1 o) ≡ with_field n o 1 1
+    by true e = inside (ltb-true o 32 e)
+    by false e =
+        let l = ltb-false o 32 e in
+        ap (bit_or n) (sym (lost 1 o l)) ∙ or_zero_r n ∙ behind n o 1 1 h l

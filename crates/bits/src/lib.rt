@@ -10,20 +10,17 @@ ghost use Rattle.bits.specs.Tables.{place_of};
 ghost use Rattle.bits.specs.Code.{lifted_of, with_field};
 
 // A field of a word, from its highest bit to its lowest, as the papers write 28:26.
-#[derive(Clone, Copy)]
+#[derive(Clone, Copy, Debug, PartialEq, Eq)]
 pub struct Bits(pub u32, pub u32);
 
 // How many bits a field has; a word has 32.
 fn width_of(f: Bits) -> u32
     ensures { result ≡ width_of f }
 {
-    if f.0 < f.1 {
-        return 0;
+    match f.0.checked_sub(f.1) {
+        Some(n) => n.min(31) + 1,
+        None => 0,
     }
-    if f.0 - f.1 >= 31 {
-        return 32;
-    }
-    f.0 - f.1 + 1
 }
 
 // The value of a field in a word.
@@ -44,10 +41,7 @@ pub fn put(value: u32, f: Bits) -> u32
 pub fn lift(value: u32, f: Bits) -> u32
     ensures { result ≡ lifted_of value f.1 }
 {
-    if f.1 >= 32 {
-        return 0;
-    }
-    value << f.1
+    value.unbounded_shl(f.1)
 }
 
 // Whether a value is within a field's width.
@@ -61,47 +55,34 @@ pub fn fits(value: u32, f: Bits) -> bool
 pub fn field(word: u32, offset: u32, width: u32) -> u32
     ensures { result ≡ field_of word offset width }
 {
-    if offset >= 32 {
-        return 0;
-    }
+    let from_offset = word.unbounded_shr(offset);
     if width >= 32 {
-        return word >> offset;
+        return from_offset;
     }
-    (word >> offset) & ((1 << width) - 1)
+    from_offset & ((1 << width) - 1)
 }
 
 // The low `width` bits of `value`, moved up to bit `offset`.
 pub fn place(value: u32, offset: u32, width: u32) -> u32
     ensures { result ≡ place_of value offset width }
 {
-    if offset >= 32 {
-        return 0;
-    }
-    field(value, 0, width) << offset
+    field(value, 0, width).unbounded_shl(offset)
 }
 
 // `word` with the low `width` bits of `value` in place of its own from bit `offset` on.
 pub fn with_field(word: u32, offset: u32, width: u32, value: u32) -> u32
     ensures { result ≡ with_field word offset width value }
 {
-    if offset >= 32 {
-        return word;
-    }
-    let below = field(word, 0, offset);
+    let end = offset.saturating_add(width);
+    let above = word.unbounded_shr(end).unbounded_shl(end);
     let own = place(value, offset, width);
-    if width >= 32 - offset {
-        return own | below;
-    }
-    let end = offset + width;
-    place(field(word, end, 32), end, 32) | own | below
+    let below = field(word, 0, offset);
+    above | own | below
 }
 
 // A word with one bit set; all others stay.
 pub fn with_bit(word: u32, offset: u32) -> u32
     ensures { result ≡ with_field word offset 1 1 }
 {
-    if offset >= 32 {
-        return word;
-    }
-    word | (1 << offset)
+    word | 1u32.unbounded_shl(offset)
 }

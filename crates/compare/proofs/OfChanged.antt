@@ -2,24 +2,40 @@
 -- overlap in either list. Laws over any two lists. Assumes nothing.
 use mathlib.Core.Path.{◌≡◌, refl, ap, ap₂, sym, ◌∙◌}
 use mathlib.Core.Bool.{Bool, true, false, cond}
-use mathlib.Core.List.{List, [], ◌∷◌, ◌++◌, reverse, reverse_aux, reverse-append, reverse-reverse}
-use mathlib.Core.Logic.{⊎_elim}
-use Prim.Native.Nat.{ℕ, zero, suc, ◌+◌, ◌*◌, ◌-◌, ◌≤◌, suc-le-suc, ◌<◌}
-use native.Mathlib.Nat.{zero-add, add-suc, suc-add, eq-or-lt_of_le, le_of_suc-le-suc}
-use native.Mathlib.Numerals.{add-one}
+use mathlib.Core.List.{List, [], ◌∷◌, ◌++◌, reverse, reverse-append, reverse-reverse}
+use Prim.Native.Nat.{ℕ, zero, suc, ◌+◌, ◌*◌, ◌-◌, ◌≤◌, suc-le-suc}
+use native.Mathlib.Nat.{le_of_suc-le-suc}
 use native.Mathlib.Omega.{arith}
 use borrow.Author.Tests.{eq-eqb, eqb-true}
 use lib.Dec.{eqb}
 use lib.ListN.{length, get_or, take, drop, length-reverse, length-drop, length-append, take-append-drop}
-use lib.Seq.{take-suc, take_at, take-append_seam, get_or-take, drop-drop, drop-append-add}
+use lib.Seq.{take_at, take-append_seam, drop-drop, drop-append-add}
 use denote.Ref.{Bor}
 use Rattle.laws.proofs.OfLists.{to_the_end}
 use Rattle.units.specs.declared.Words.{Words}
 use Rattle.units.specs.Units.{words}
 use Rattle.compare.specs.Changed.{common_beginning, common_ending, older_rest, newer_rest, rest_ending, changed_words, changed_start, word_place}
+use Rattle.std.specs.List.{zip, prefix_len}
+use Rattle.std.specs.Bool.{◌==◌}
+use Rattle.compare.specs.Code.{in_common}
 use Rattle.compare.specs.Laws.{CommonBeginning, CommonEnding}
 
 -- ---- the common beginning
+
+-- it is what the code counts
+pub counted : (xs ys : List ℕ) → in_common xs ys ≡ common_beginning xs ys
+unfolding common_beginning
+counted [] ys = refl
+counted (x ∷ xs) [] = refl
+counted (x ∷ xs) (y ∷ ys) = by (eqb x y) (counted xs ys)
+  where
+    by :
+        (t : Bool) → in_common xs ys ≡ common_beginning xs ys
+        → length (take (cond t (1 + prefix_len (λ p. p.0 == p.1) (zip xs ys)) 0) ((x, y) ∷ zip xs ys)) ≡ cond t (suc (common_beginning xs ys)) 0
+    by true h =
+        let one : 1 + prefix_len (λ p. p.0 == p.1) (zip xs ys) ≡ suc (prefix_len (λ p. p.0 == p.1) (zip xs ys)) = omega arith in
+        ap (λ (n : ℕ). length (take n ((x, y) ∷ zip xs ys))) one ∙ ap suc h
+    by false h = refl
 
 -- it is common
 pub beginning_common : (xs ys : List ℕ) → CommonBeginning (common_beginning xs ys) xs ys
@@ -54,36 +70,12 @@ beginning_longest (suc n) (x ∷ xs) (y ∷ ys) h =
       same = ap (λ (l : List ℕ). drop 1 l) h.same;
     })))
 
--- a common beginning behind which the words differ, or one list ends, is the longest
-pub beginning_ends : (n : ℕ) (xs ys : List ℕ) → CommonBeginning n xs ys → (n < length xs → n < length ys → get_or xs n 0 ≡ get_or ys n 0 → ⊥) → n ≡ common_beginning xs ys
-beginning_ends n xs ys h other =
-    ⊎_elim (λ e. e)
-    (λ l. absurd (other (omega (arith, common.in_first)) (omega (arith, common.in_second)) (next l)))
-    (eq-or-lt_of_le (beginning_longest n xs ys h))
-  where
-    common : CommonBeginning (common_beginning xs ys) xs ys
-    common = beginning_common xs ys
-
-    next : n < common_beginning xs ys → get_or xs n 0 ≡ get_or ys n 0
-    next l =
-        sym (get_or-take (common_beginning xs ys) xs n 0 l)
-        ∙ ap (λ (k : List ℕ). get_or k n 0) common.same
-        ∙ get_or-take (common_beginning xs ys) ys n 0 l
-
--- ---- it word by word, as a loop finds it
-
-pub none_common : (xs ys : List ℕ) → CommonBeginning 0 xs ys
-none_common xs ys = record { in_first = omega arith; in_second = omega arith; same = refl }
-
-pub one_more_common : (n : ℕ) (xs ys : List ℕ) → CommonBeginning n xs ys → n < length xs → n < length ys → get_or xs n 0 ≡ get_or ys n 0 → CommonBeginning (n + 1) xs ys
-one_more_common n xs ys h l k e =
-    record {
-      in_first = omega arith;
-      in_second = omega arith;
-      same = rw (add-one, take-suc xs n 0, take-suc ys n 0) (ap₂ (λ (a : List ℕ) (b : ℕ). a ++ (b ∷ [])) h.same e);
-    }
-
 -- ---- the common ending
+
+-- it is what the code counts backwards
+pub counted_back : (xs ys : List ℕ) → in_common (reverse xs) (reverse ys) ≡ common_ending xs ys
+unfolding common_ending
+counted_back xs ys = counted (reverse xs) (reverse ys)
 
 -- the last words are the first ones of the list read backwards
 ending_backwards : (n : ℕ) (xs : List ℕ) → n ≤ length xs → take n (reverse xs) ≡ reverse (drop (length xs - n) xs)
@@ -131,43 +123,6 @@ ending_common xs ys = read_forwards (common_ending xs ys) xs ys (beginning_commo
 pub ending_longest : (n : ℕ) (xs ys : List ℕ) → CommonEnding n xs ys → n ≤ common_ending xs ys
 unfolding common_ending
 ending_longest n xs ys h = beginning_longest n (reverse xs) (reverse ys) (read_backwards n xs ys h)
-
--- ---- it word by word
-
--- a word of the list read backwards: past the part that is reversed stands what was there before it
-back : (xs r : List ℕ) (j : ℕ) → get_or (reverse_aux xs r) (length xs + j) 0 ≡ get_or r j 0
-back [] r j = ap (λ (k : ℕ). get_or r k 0) (zero-add j)
-back (x ∷ xs) r j =
-    ap (λ (k : ℕ). get_or (reverse_aux xs (x ∷ r)) k 0) (suc-add (length xs) j ∙ sym (add-suc (length xs) j))
-    ∙ back xs (x ∷ r) (suc j)
-
-front : (xs r : List ℕ) (i j : ℕ) → i + j + 1 ≡ length xs → get_or (reverse_aux xs r) i 0 ≡ get_or xs j 0
-front [] r i j e = absurd (omega arith)
-front (x ∷ xs) r i zero e = ap (λ (k : ℕ). get_or (reverse_aux xs (x ∷ r)) k 0) (omega arith) ∙ back xs (x ∷ r) 0
-front (x ∷ xs) r i (suc j) e = front xs (x ∷ r) i j (omega arith)
-
-word_backwards : (xs : List ℕ) (i : ℕ) → i < length xs → get_or (reverse xs) i 0 ≡ get_or xs (length xs - 1 - i) 0
-word_backwards xs i h = front xs [] i (length xs - 1 - i) (omega arith)
-
-pub none_common_ending : (xs ys : List ℕ) → CommonEnding 0 xs ys
-none_common_ending xs ys = read_forwards 0 xs ys (none_common (reverse xs) (reverse ys))
-
-pub one_more_common_ending : (n : ℕ) (xs ys : List ℕ) → CommonEnding n xs ys → n < length xs → n < length ys → get_or xs (length xs - 1 - n) 0 ≡ get_or ys (length ys - 1 - n) 0 → CommonEnding (n + 1) xs ys
-one_more_common_ending n xs ys h l k e =
-    read_forwards (n + 1) xs ys
-    (one_more_common n (reverse xs) (reverse ys) (read_backwards n xs ys h)
-    (omega (arith, length-reverse xs))
-    (omega (arith, length-reverse ys))
-    (word_backwards xs n l ∙ e ∙ sym (word_backwards ys n k)))
-
-pub ending_ends : (n : ℕ) (xs ys : List ℕ) → CommonEnding n xs ys → (n < length xs → n < length ys → get_or xs (length xs - 1 - n) 0 ≡ get_or ys (length ys - 1 - n) 0 → ⊥) → n ≡ common_ending xs ys
-unfolding common_ending
-ending_ends n xs ys h other =
-    beginning_ends n (reverse xs) (reverse ys) (read_backwards n xs ys h)
-    (λ l k e. differ (omega (arith, length-reverse xs)) (omega (arith, length-reverse ys)) e)
-  where
-    differ : n < length xs → n < length ys → get_or (reverse xs) n 0 ≡ get_or (reverse ys) n 0 → ⊥
-    differ l k e = other l k (sym (word_backwards xs n l) ∙ e ∙ word_backwards ys n k)
 
 -- ---- the two together
 

@@ -5,9 +5,9 @@
 // so that no word counts in both.
 #![tactic(auto)]
 
-ghost use Rattle.std.specs.Prelude.{◌≡◌};
-ghost use Rattle.compare.specs.Changed.{common_beginning, common_ending, changed_words, changed_start, word_place};
-ghost use Rattle.compare.specs.Laws.{CommonBeginning, CommonEnding};
+ghost use Rattle.std.specs.Prelude.{◌≡◌, ◌≤◌, length, reverse};
+ghost use Rattle.compare.specs.Changed.{changed_words, changed_start, word_place};
+ghost use Rattle.compare.specs.Code.{in_common};
 
 use units::Words;
 
@@ -25,6 +25,7 @@ pub fn changed<'a, 'b>(older: &'a [u32], newer: &'b [u32]) -> &'b [u32]
 }
 
 // The number of the word of the newer at which that part starts.
+#[tactic(auto, using(crate::proofs::OfChanged::counted))]
 pub fn changed_start(older: &[u32], newer: &[u32]) -> Words
     ensures { result ≡ changed_start older.now newer.now }
 {
@@ -33,32 +34,23 @@ pub fn changed_start(older: &[u32], newer: &[u32]) -> Words
 
 // How many words the two have in common at their beginnings.
 fn common_beginning(older: &[u32], newer: &[u32]) -> usize
-    ensures value { result ≡ common_beginning older.now newer.now }
-    ensures common_beginning { CommonBeginning result older.now newer.now }
+    ensures value { result ≡ in_common older.now newer.now }
+    ensures in_older { result ≤ length older.now }
+    ensures in_newer { result ≤ length newer.now }
 {
-    let most = units::smaller(older.len(), newer.len());
-    let mut n = 0;
-    while n < most {
-        if older[n] != newer[n] {
-            return n;
-        }
-        n += 1;
-    }
-    most
+    older.iter().zip(newer).take_while(|(a, b)| a == b).count()
 }
 
 // How many words the two have in common at their ends.
 fn common_ending(older: &[u32], newer: &[u32]) -> usize
-    ensures value { result ≡ common_ending older.now newer.now }
-    ensures common_ending { CommonEnding result older.now newer.now }
+    ensures value { result ≡ in_common (reverse older.now) (reverse newer.now) }
+    ensures in_older { result ≤ length older.now }
+    ensures in_newer { result ≤ length newer.now }
 {
-    let most = units::smaller(older.len(), newer.len());
-    let mut n = 0;
-    while n < most {
-        if older[older.len() - 1 - n] != newer[newer.len() - 1 - n] {
-            return n;
-        }
-        n += 1;
-    }
-    most
+    older
+        .iter()
+        .rev()
+        .zip(newer.iter().rev())
+        .take_while(|(a, b)| a == b)
+        .count()
 }

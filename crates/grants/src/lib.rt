@@ -3,11 +3,11 @@
 // Rules 7, 9 and 15 of document 01 ask this, and so does the claim about the walk: specs/Grants.antt says it once for all of them.
 #![tactic(auto)]
 
-ghost use Rattle.std.specs.Prelude.{◌≡◌, ◌-◌, min};
+ghost use Rattle.std.specs.Prelude.{◌≡◌};
 ghost use Rattle.grants.specs.Grants.{register, alu_register, granted, all_granted, source_names, locked};
 
 // The card's figures, and the two modes of an ALU clause's opener (any number where there is none).
-#[derive(Clone, Copy)]
+#[derive(Clone, Copy, Debug, PartialEq, Eq)]
 pub struct Limits {
     pub gprs: u32,
     pub temps: u32,
@@ -34,24 +34,11 @@ pub fn alu_register_granted(limits: Limits, r: u32) -> bool
 pub fn locked_by(mode: u32) -> u32
     ensures { result ≡ locked mode }
 {
-    if mode == 0 {
-        return 0;
+    match mode {
+        0 => 0,
+        1 => 16,
+        _ => 32,
     }
-    if mode == 1 { 16 } else { 32 }
-}
-
-// Registers below this are granted; a register's number is below 128.
-fn register_bound(gprs: u32) -> usize
-    ensures { result ≡ min gprs 128 }
-{
-    units::smaller(gprs as usize, 128)
-}
-
-// The lowest clause temporary.
-fn temps_start(temps: u32) -> usize
-    ensures { result ≡ 128 - temps }
-{
-    if temps < 128 { 128 - temps as usize } else { 0 }
 }
 
 // What a source of an ALU instruction names, by its number: a test for each kind, of which at most one can hold. No branch goes by the
@@ -60,8 +47,8 @@ pub fn source_granted(limits: Limits, s: u32) -> bool
     ensures { result ≡ all_granted limits (source_names s) }
 {
     let source = s as usize;
-    let register = source < register_bound(limits.gprs);
-    let temporary = (temps_start(limits.temps) <= source) & (source < 128);
+    let register = source < (limits.gprs as usize).min(128);
+    let temporary = (128usize.saturating_sub(limits.temps as usize) <= source) & (source < 128);
     let in_set0 = (128 <= source) & (source < 128 + locked_by(limits.mode0) as usize);
     let in_set1 = (160 <= source) & (source < 160 + locked_by(limits.mode1) as usize);
     let inline = (192 <= source) & (source < 256);

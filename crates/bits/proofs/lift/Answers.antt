@@ -1,6 +1,7 @@
 -- `bits::lift` meets its contract at any offset: what is moved up by 32 or more leaves nothing in the word. Assumes nothing.
-use Rattle.bits.proofs.OfField.{lost}
+use mathlib.Core.Path.{◌∙◌}
+use Rattle.bits.proofs.OfField.{moved_up}
 use Rattle.bits.proofs.lift.Goals as goal
 
-pub returns-then-f-ge32 : goal.returns-then-f-ge32
-returns-then-f-ge32 c = lost _ _ c.if-f-ge32.true
+pub returns : goal.returns
+returns c = c.unbounded_shl.ensures ∙ moved_up _ _
