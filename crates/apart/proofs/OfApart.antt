@@ -4,6 +4,7 @@ use mathlib.Core.Path.{◌≡◌, refl, sym, ap, ◌∙◌, subst}
 use mathlib.Core.Bool.{Bool, true, false, not, ◌&&◌, ◌||◌}
 use mathlib.Core.List.{List, [], ◌∷◌}
 use mathlib.Core.Logic.{◌⊎◌, inl, inr, ⊎_elim}
+use Rattle.std.specs.Prelude.{Option, Some, None}
 use native.Mathlib.Nat.{le_of_suc-le-suc, eq-or-lt_of_le, le_refl, le_step}
 use native.Mathlib.Omega.{arith}
 use lib.Dec.{eqb, ltb}
@@ -12,24 +13,23 @@ use Rattle.laws.proofs.OfCases.{impossible}
 use Rattle.laws.proofs.OfTests.{both, by_test_lem}
 use Rattle.units.specs.declared.Quadwords.{Quadwords}
 use Rattle.units.specs.declared.Slots.{Slots}
-use Rattle.units.specs.Units.{quadwords, slots, low_at, high_at, slots_length, fetches_length, range_end, is_at_most}
+use Rattle.units.specs.Units.{quadwords, slots, low_at, high_at, range_end, is_at_most}
 use Rattle.units.specs.Code.{quadwords_in_64}
 use Rattle.checks.specs.declared.Place.TheVariants.{Quadword}
-use Rattle.checks.specs.declared.Verdict.TheVariants.{Accepted, Refused}
+use Rattle.checks.specs.Verdict.{Accepted, Refused}
 use Rattle.checks.specs.Checks.{Check, of_pair, first_broken, below}
 use Rattle.checks.proofs.OfChecks.{first_clean, joined_clean, joined_refused, below_next, below_each}
-use Rattle.opcodes.specs.declared.cf.FetchKind.{FetchKind}
 use Rattle.opcodes.specs.declared.cf.Control.{Control}
 use Rattle.opcodes.specs.declared.cf.Control.TheVariants.{NotTaken, Nop, Fetch, Branch, Export, Alu}
 use Rattle.section.specs.declared.Clause.{Clause}
-use Rattle.section.specs.declared.Clause.TheVariants.{NoClause, AluClause, FetchClause}
+use Rattle.section.specs.declared.Range.{Range}
 use Rattle.section.specs.Control.{control_of, control_at}
-use Rattle.section.specs.Rules.{clause_of, clause_at}
-use Rattle.apart.specs.declared.ranges.Range.{Range}
+use Rattle.section.specs.Code.{range_in_64}
+use Rattle.section.specs.Rules.{clause_of, clause_at, range_of}
 use Rattle.apart.specs.declared.Seen.{Seen}
 use Rattle.apart.specs.declared.Seen.TheVariants.{Rising, Asked}
 use Rattle.apart.specs.Apart.{start_of, length_of, behind, same_range, disjoint, half_shared, shared_checks, SameOrDisjoint}
-use Rattle.apart.specs.Code.{range_of, ApartFrom, Fit, FirstNotApart, quadwords_in, marked_in, OneIs, SeenWith, opens_none, clear, turns, Risen, SeenBefore, none_seen, is_clear, up_to, names}
+use Rattle.apart.specs.Code.{ApartFrom, Fit, FirstNotApart, quadwords_in, marked_in, OneIs, SeenWith, opens_none, clear, turns, Risen, SeenBefore, none_seen, is_clear, up_to, names}
 
 -- what holds of each place below p, and of p
 pub last_or : (P : ℕ → Type 0) (p q : ℕ) → q < suc p → (q < p → P q) → P p → P q
@@ -37,7 +37,7 @@ last_or P p q l f h = ⊎_elim (λ e. subst P (sym e) h) f (eq-or-lt_of_le (le_o
 
 -- ---- two clauses
 
-module _ (a b : Clause) where
+module _ (a b : Option Clause) where
   pub not_half : half_shared a b ≡ false → SameOrDisjoint a b
   unfolding half_shared same_range disjoint
   not_half h =
@@ -87,14 +87,14 @@ module _ (a b : Clause) where
       (⊎_elim (λ s. x.not_same s.0 s.1) (λ d. ⊎_elim (λ l. omega (arith, x.second-in)) (λ l. omega (arith, x.first_in)) d)
       (not_half e)))
 
-pub other_way : (a b : Clause) → SameOrDisjoint a b → SameOrDisjoint b a
+pub other_way : (a b : Option Clause) → SameOrDisjoint a b → SameOrDisjoint b a
 other_way a b (inl s) = inl (sym s.0, sym s.1)
 other_way a b (inr (inl l)) = inr (inr l)
 other_way a b (inr (inr l)) = inr (inl l)
 
 -- ---- a place against all before it
 
-module _ (opens : ℕ → Clause) (p : ℕ) where
+module _ (opens : ℕ → Option Clause) (p : ℕ) where
   abbrev one : ℕ → List Check
   one q = of_pair 22 p (half_shared (opens q) (opens p)) ∷ []
 
@@ -129,19 +129,32 @@ module _ (opens : ℕ → Clause) (p : ℕ) where
 
 -- ---- the clauses of a section: how long they are, by the width of COUNT, and where they start, by that of ADDR
 
-pub record Sized (k : Clause) : Type 0 where
+pub record Sized (k : Option Clause) : Type 0 where
   pub few : (length_of k).0 ≤ 128
   pub low : (start_of k).0 < 2 ^ 32
   pub none : (length_of k).0 ≡ 0 → (start_of k).0 ≡ 0
+  pub some : (c : Clause) → k ≡ Some c → 0 < (range_of c).size.0
+
+none_sized : Sized None
+none_sized = record { few = omega arith; low = omega arith; none = λ z. refl; some = λ c z. impossible cc }
+
+some_sized : (c : Clause) → 0 < (range_of c).size.0 → (range_of c).size.0 ≤ 128 → (range_of c).start.0 < 2 ^ 32 → Sized (Some c)
+some_sized c long few low =
+    record {
+      few = few;
+      low = low;
+      none = λ z. absurd (omega arith);
+      some = λ d e. subst (λ (x : Option Clause). 0 < (length_of x).0) e long;
+    }
 
 pub clause_sized : (c : Control) (lo hi : ℕ) → Sized (clause_of c lo hi)
 unfolding clause_of
-clause_sized NotTaken lo hi = record { few = omega arith; low = omega arith; none = λ z. refl }
-clause_sized Nop lo hi = record { few = omega arith; low = omega arith; none = λ z. refl }
-clause_sized (Fetch kind) lo hi = record { few = omega arith; low = omega arith; none = λ z. absurd (omega arith) }
-clause_sized (Branch b) lo hi = record { few = omega arith; low = omega arith; none = λ z. refl }
-clause_sized Export lo hi = record { few = omega arith; low = omega arith; none = λ z. refl }
-clause_sized (Alu push pops) lo hi = record { few = omega arith; low = omega arith; none = λ z. absurd (omega arith) }
+clause_sized NotTaken lo hi = none_sized
+clause_sized Nop lo hi = none_sized
+clause_sized (Fetch kind) lo hi = some_sized _ (omega arith) (omega arith) (omega arith)
+clause_sized (Branch b) lo hi = none_sized
+clause_sized Export lo hi = none_sized
+clause_sized (Alu push pops) lo hi = some_sized _ (omega arith) (omega arith) (omega arith)
 
 pub sized_at : (w : List ℕ) (p : ℕ) → Sized (clause_at w p)
 unfolding clause_at
@@ -149,77 +162,38 @@ sized_at w p = clause_sized (control_at w p) (low_at w p) (high_at w p)
 
 -- ---- a clause's range, as the code has it
 
-module _ {k : Clause} where
-  pub range_none : k ≡ NoClause → record { start = quadwords 0; size = quadwords 0 } ≡ range_of k
-  range_none e = rw e
+-- the clause c that is opened, by the range that the code has of it, and where that ends; t is whether it is clear
+module _ (w : List ℕ) (e : ℕ) (seen : Seen) {k : Option Clause} {c : Clause} {r : Range} {b : Quadwords} {t : Bool} (opened : k ≡ Some c)
+    (range : r ≡ range_in_64 (range_of c)) (end : b ≡ quadwords_in_64 (range_end r.start r.size)) (test : t ≡ is_clear seen r.start b) where
+  starts : r.start ≡ start_of k
+  starts = ap (λ (x : Range). x.start) range ∙ ap start_of (sym opened)
 
-  pub range_slots :
-      {s : Quadwords} {n : Slots} {push : Bool} {mode0 mode1 : ℕ} {size : Quadwords} → k ≡ AluClause s n push mode0 mode1 → n.0 < 2 ^ 64
-      → size ≡ slots_length n → record { start = s; size = size } ≡ range_of k
-  range_slots {s} {n} {size = size} e l f =
-      let exact : size ≡ quadwords_in_64 (slots_length n) = f ∙ ap quadwords (omega arith) in
-      rw e (λ i. record { start = s; size = exact i })
-
-  pub range_fetches :
-      {s : Quadwords} {n : Slots} {kind : FetchKind} {size : Quadwords} → k ≡ FetchClause s n kind → size ≡ quadwords_in_64 (fetches_length n)
-      → record { start = s; size = size } ≡ range_of k
-  range_fetches {s} e f = rw e (λ i. record { start = s; size = f i })
-
--- the range of the pair that was read
-pub range_here :
-    (w : List ℕ) (p : ℕ) {low high : ℕ} {control : Control} {k : Clause} {r : Range} → low ≡ low_at w p → high ≡ high_at w p → control ≡ control_of high
-    → k ≡ clause_of control low high → r ≡ range_of k → r ≡ range_of (clause_at w p)
-unfolding control_at clause_at
-range_here w p a b c d f =
-    f ∙ ap range_of (d ∙ (λ i. clause_of (c i) (a i) (b i)) ∙ (λ i. clause_of (control_of (b i)) (low_at w p) (high_at w p)))
-
--- ---- with one clause more, from what the tests answered
-
-module _ {seen : Seen} {b h : Quadwords} (f : seen ≡ Rising b h) (s c : Quadwords) {t : Bool} (g : t ≡ is_at_most b s) where
-  pub clear_behind : t ≡ true → true ≡ is_clear seen s c
-  clear_behind e = rw (f, sym g ∙ e)
-
-  module _ (e : t ≡ false) where
-    pub not-highest : (h.0 ≡ s.0 → ⊥) → false ≡ is_clear seen s c
-    not-highest n = rw (f, sym g ∙ e, ne_eqb h.0 s.0 n)
-
-    pub if-highest : h.0 ≡ s.0 → eqb b.0 c.0 ≡ is_clear seen s c
-    if-highest n = rw (f, sym g ∙ e, eq-eqb h.0 s.0 n)
-
--- of a clause that starts at s and ends before c
-module _ (w : List ℕ) (e : ℕ) (k : Clause) (some : k ≡ NoClause → ⊥) {s c : Quadwords} (starts : s ≡ start_of k) (ends : c ≡ quadwords_in_64 (behind k))
-    {t : Bool} (seen : Seen) (f : t ≡ is_clear seen s c) where
-  told : (u : Bool) → t ≡ u → is_clear seen (start_of k) (quadwords_in_64 (behind k)) ≡ u
-  told u h = (λ i. is_clear seen (sym starts i) (sym ends i)) ∙ sym f ∙ h
-
-  pub is_clear_lem : {r : Seen} → t ≡ true → r ≡ up_to seen s c → SeenWith w e k seen r
-  is_clear_lem h g = clear some (told true h) (g ∙ (λ i. up_to seen (starts i) (ends i)))
-
-  pub turns_there : {r : Quadwords} → t ≡ false → FirstNotApart w e r.0 → SeenWith w e k seen (Asked r)
-  turns_there h q = turns some (told false h) q
-
--- a clause of slots, or of fetches, is one, and ends where the sums say
-module _ {k : Clause} {s : Quadwords} {n : Slots} where
-  pub slots_open : {push : Bool} {mode0 mode1 : ℕ} → k ≡ AluClause s n push mode0 mode1 → (k ≡ NoClause → ⊥) × (s ≡ start_of k)
-  slots_open e = (λ z. impossible (let x = sym e ∙ z in cc), ap start_of (sym e))
-
-  pub slots_end :
-      {push : Bool} {mode0 mode1 : ℕ} {size c : Quadwords} → k ≡ AluClause s n push mode0 mode1 → size ≡ slots_length n
-      → c ≡ quadwords_in_64 (range_end s size) → c ≡ quadwords_in_64 (behind k)
-  slots_end e f g =
-      g ∙ ap (λ (x : Quadwords). quadwords_in_64 (range_end s x)) f ∙ ap (λ (x : Clause). quadwords_in_64 (behind x)) (sym e)
-
-  pub fetches_open : {kind : FetchKind} → k ≡ FetchClause s n kind → (k ≡ NoClause → ⊥) × (s ≡ start_of k)
-  fetches_open e = (λ z. impossible (let x = sym e ∙ z in cc), ap start_of (sym e))
-
-  pub fetches_end :
-      {kind : FetchKind} {size c : Quadwords} → k ≡ FetchClause s n kind → size ≡ quadwords_in_64 (fetches_length n)
-      → c ≡ quadwords_in_64 (range_end s size) → c ≡ quadwords_in_64 (behind k)
-  fetches_end e f g =
-      g
-      ∙ ap (λ (x : Quadwords). quadwords_in_64 (range_end s x)) f
+  ends : b ≡ quadwords_in_64 (behind k)
+  ends =
+      end
+      ∙ ap (λ (x : Range). quadwords_in_64 (range_end x.start x.size)) range
       ∙ ap quadwords (omega arith)
-      ∙ ap (λ (x : Clause). quadwords_in_64 (behind x)) (sym e)
+      ∙ ap (λ (x : Option Clause). quadwords_in_64 (behind x)) (sym opened)
+
+  not_none : k ≡ None → ⊥
+  not_none z = impossible (let x = sym opened ∙ z in cc)
+
+  told : (u : Bool) → t ≡ u → is_clear seen (start_of k) (quadwords_in_64 (behind k)) ≡ u
+  told u h = (λ i. is_clear seen (sym starts i) (sym ends i)) ∙ sym test ∙ h
+
+  pub seen_clear : {s : Seen} → t ≡ true → s ≡ up_to seen r.start b → SeenWith w e k seen s
+  seen_clear h g = clear not_none (told true h) (g ∙ (λ i. up_to seen (starts i) (ends i)))
+
+  pub seen_turns : {q : Quadwords} → t ≡ false → FirstNotApart w e q.0 → SeenWith w e k seen (Asked q)
+  seen_turns h q = turns not_none (told false h) q
+
+-- the clause of the pair that was read
+pub clause_here :
+    (w : List ℕ) (p : ℕ) {low high : ℕ} {control : Control} {k : Option Clause} → low ≡ low_at w p → high ≡ high_at w p → control ≡ control_of high
+    → k ≡ clause_of control low high → k ≡ clause_at w p
+unfolding control_at clause_at
+clause_here w p a b c d =
+    d ∙ (λ i. clause_of (c i) (a i) (b i)) ∙ (λ i. clause_of (control_of (b i)) (low_at w p) (high_at w p))
 
 -- ---- what is known as the places go by
 
@@ -243,9 +217,9 @@ module _ (w : List ℕ) (e p : ℕ) where
   later : {s c : ℕ} → OneIs (clause_at w) p s c → OneIs (clause_at w) (suc p) s c
   later o = record { place = o.place; earlier = le_step o.earlier; starts = o.starts; ends = o.ends }
 
-  none_here : (s : Seen) → clause_at w p ≡ NoClause → SeenBefore w e p s → SeenBefore w e (suc p) s
+  none_here : (s : Seen) → clause_at w p ≡ None → SeenBefore w e p s → SeenBefore w e (suc p) s
   none_here (Rising b h) z x =
-      let n : (behind (clause_at w p)).0 ≡ 0 = ap (λ (y : Clause). (behind y).0) z in
+      let n : (behind (clause_at w p)).0 ≡ 0 = ap (λ (y : Option Clause). (behind y).0) z in
       record {
         below = λ q k. last_or (λ q. (behind (clause_at w q)).0 ≤ b.0) p q k (x.below q) (omega arith);
         has_highest = λ y. later (x.has_highest y);
@@ -301,9 +275,9 @@ module _ (w : List ℕ) (e p : ℕ) where
         let less : r.0 < p = ⊎_elim (λ x. absurd (eqb-false r.0 p n x)) (λ x. x) (eq-or-lt_of_le least) in
         absurd (u.unfit_there (omega arith) (fit r.0 less)))
 
-    empty-apart : clause_at w p ≡ NoClause → ApartFrom (clause_at w) p
+    empty-apart : clause_at w p ≡ None → ApartFrom (clause_at w) p
     empty-apart z q l =
-        let n : (behind (clause_at w p)).0 ≡ 0 = ap (λ (x : Clause). (behind x).0) z in
+        let n : (behind (clause_at w p)).0 ≡ 0 = ap (λ (x : Option Clause). (behind x).0) z in
         same_or_disjoint (clause_at w q) (clause_at w p) (inr (inr (omega arith)))
 
     -- two earlier clauses, whichever comes first
@@ -347,7 +321,7 @@ module _ (w : List ℕ) (e p : ℕ) where
     clear-unnamed (Asked r) start end x m a = first-named r x m a
     clear-unnamed (Rising b h) start end x m a = impossible cc
 
-    none_named : (s : Seen) → SeenBefore w e p s → clause_at w p ≡ NoClause → names s (quadwords p) ≡ true → ⊥
+    none_named : (s : Seen) → SeenBefore w e p s → clause_at w p ≡ None → names s (quadwords p) ≡ true → ⊥
     none_named (Rising b h) x z n = impossible cc
     none_named (Asked r) x z n = first-named r x n (empty-apart z)
 

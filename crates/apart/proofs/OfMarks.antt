@@ -1,25 +1,33 @@
 -- The marks answer rule 22: a range that they show already, or one that they leave free, has nothing in part with an earlier one; any other
 -- has. Assumes nothing.
-use Prim.Native.Nat.{ℕ, suc, ◌+◌, ◌-◌, ◌^◌, ◌≤◌, ◌<◌, min, max}
+use Prim.Native.Nat.{ℕ, zero, suc, ◌+◌, ◌-◌, ◌^◌, ◌≤◌, ◌<◌, min, max}
 use mathlib.Core.Path.{◌≡◌, refl, sym, ap, ◌∙◌, subst}
 use mathlib.Core.Bool.{Bool, true, false, true≢false}
-use mathlib.Core.List.{List}
+use mathlib.Core.List.{List, [], ◌∷◌, ◌++◌}
 use mathlib.Core.Logic.{⊎_elim}
 use native.Mathlib.Nat.{eq-or-lt_of_le, le_refl}
 use native.Mathlib.Omega.{arith}
-use lib.Dec.{ltb}
-use lib.ListN.{length, get_or, set, replicate, length-set, length-replicate, get_or-replicate, get_or-eq_default}
+use lib.Dec.{eqb, ltb}
+use native.Mathlib.Numerals.{add-one}
+use Rattle.std.specs.Prelude.{Option, Some, None, slice_range}
+use Rattle.std.specs.List.{list_any}
+use Rattle.std.proofs.lemmas.List.{drop-drop}
+use Rattle.std.proofs.lemmas.List.Edits.{split_between, length-between, get_or-between}
+use Rattle.std.proofs.lemmas.Simd.{put_chunk_is, get_or-put_chunk_below, get_or-put_chunk_at, get_or-put_chunk_above}
+use lib.Lanes.{put_chunk}
+use lib.ListN.{length, get_or, take, drop, replicate, length-set, length-replicate, get_or-replicate, get_or-eq_default}
 use lib.Seq.{get_or-set_same, get_or-set_other}
-use borrow.Author.Tests.{ltb-true, ltb-false}
-use Rattle.laws.proofs.OfTests.{by_test_lem}
+use borrow.Author.Tests.{eqb-true, eqb-false, ltb-true, ltb-false, not-false}
+use Rattle.laws.proofs.OfTests.{by_test_lem, neither}
 use Rattle.units.specs.declared.Quadwords.{Quadwords}
 use Rattle.units.specs.Units.{words, whole_quadwords, quadword_behind}
 use Rattle.units.specs.Code.{quadwords_in_64}
 use Rattle.section.specs.declared.Clause.{Clause}
-use Rattle.section.specs.Rules.{clause_at}
-use Rattle.apart.specs.declared.ranges.Range.{Range}
+use Rattle.section.specs.declared.Range.{Range}
+use Rattle.section.specs.Code.{range_in_64}
+use Rattle.section.specs.Rules.{clause_at, range_of}
 use Rattle.apart.specs.Apart.{start_of, length_of, behind, half_shared}
-use Rattle.apart.specs.Code.{range_of, ApartFrom, Fit, FirstUnfit, FirstNotApart, quadwords_in, marked_in, Unmarked, Covered, Marked, Filled, Claimed, again, claims, clashes, Found, empty, outside, within}
+use Rattle.apart.specs.Code.{ApartFrom, Fit, FirstUnfit, FirstNotApart, quadwords_in, marked_in, Covered, Marked, is_mark, marks_of, Claimed, again, claims, clashes, Found, outside, within}
 use Rattle.apart.proofs.OfApart.{last_or, InPart, half_in_part, in_part_half, Sized}
 
 -- below, equal or above
@@ -27,9 +35,100 @@ order : {P : Type 0} (a b : ℕ) → (a < b → P) → (a ≡ b → P) → (b < 
 order a b f g h =
     by_test_lem (ltb a b) (λ e. f (ltb-true a b e)) (λ e. ⊎_elim (λ q. g (sym q)) h (eq-or-lt_of_le (ltb-false a b e)))
 
+-- ---- a range's marks, and those of all quadwords
+
+abbrev add_one : ℕ → ℕ
+add_one n = n + 1
+
+-- of n quadwords from s on
+module _ (s n : ℕ) (marks : List ℕ) where
+  part_length : s + n ≤ length marks → length (slice_range marks s (s + n)) ≡ n
+  part_length h = length-between marks s (s + n) h ∙ omega arith
+
+  part_at : (k : ℕ) → k < n → get_or (slice_range marks s (s + n)) k 0 ≡ get_or marks (s + k) 0
+  part_at k h = get_or-between marks s (s + n) k 0 (omega arith)
+
+  at_start : 0 < n → get_or (slice_range marks s (s + n)) 0 0 ≡ get_or marks s 0
+  at_start h = part_at 0 h ∙ ap (λ (j : ℕ). get_or marks j 0) (omega arith)
+
+-- no mark is made
+no_mark : (xs : List ℕ) → list_any is_mark xs ≡ false → (k : ℕ) → get_or xs k 0 ≡ 0
+no_mark [] h k = get_or-eq_default [] 0 {n = k} (omega arith)
+no_mark (x ∷ xs) h zero = eqb-true x 0 (not-false (eqb x 0) (neither (is_mark x) (list_any is_mark xs) h).0)
+no_mark (x ∷ xs) h (suc k) = no_mark xs (neither (is_mark x) (list_any is_mark xs) h).1 k
+
+-- or there is one
+record SomeMark (xs : List ℕ) : Type 0 where
+  pub place : ℕ
+  pub within_it : place < length xs
+  pub marked_there : get_or xs place 0 ≡ 0 → ⊥
+
+some_mark : (xs : List ℕ) → list_any is_mark xs ≡ true → SomeMark xs
+some_mark [] h = absurd (true≢false (sym h))
+some_mark (x ∷ xs) h =
+    by_test_lem (eqb x 0)
+    (λ e. let later = some_mark xs (rw e at h) in record { place = suc later.place; within_it = omega (arith, later.within_it); marked_there = later.marked_there })
+    (λ e. record { place = 0; within_it = omega arith; marked_there = eqb-false x 0 e })
+
+-- n quadwords from s on that had none have those of a range now, and the rest theirs
+record Filled (s n : ℕ) (before after : List ℕ) : Type 0 where
+  pub free : (j : ℕ) → s ≤ j → j < s + n → get_or before j 0 ≡ 0
+  pub first : get_or after s 0 ≡ n + 1
+  pub inside : (j : ℕ) → s < j → j < s + n → get_or after j 0 ≡ 1
+  pub below : (j : ℕ) → j < s → get_or after j 0 ≡ get_or before j 0
+  pub above : (j : ℕ) → s + n ≤ j → get_or after j 0 ≡ get_or before j 0
+
+-- the marks with others in the place of those n
+module _ (s n : ℕ) (before here after : List ℕ) (many : length here ≡ n) (room : s + n ≤ length before)
+    (e : after ≡ take s before ++ (here ++ drop (s + n) before)) where
+  as_chunk : after ≡ put_chunk s before here
+  as_chunk =
+      e
+      ∙ ap (λ (m : ℕ). take s before ++ (here ++ drop (s + m) before)) (sym many)
+      ∙ ap (λ (l : List ℕ). take s before ++ (here ++ l)) (sym (drop-drop (length here) s before))
+      ∙ sym (put_chunk_is s before here (omega arith))
+
+  below-kept : (j : ℕ) → j < s → get_or after j 0 ≡ get_or before j 0
+  below-kept j a = ap (λ (l : List ℕ). get_or l j 0) as_chunk ∙ get_or-put_chunk_below s before here j 0 a
+
+  above-kept : (j : ℕ) → s + n ≤ j → get_or after j 0 ≡ get_or before j 0
+  above-kept j a = ap (λ (l : List ℕ). get_or l j 0) as_chunk ∙ get_or-put_chunk_above s before here j 0 (omega arith)
+
+  now_here : (j : ℕ) → s ≤ j → j < s + n → get_or after j 0 ≡ get_or here (j - s) 0
+  now_here j a b =
+      let k : j ≡ s + (j - s) = omega arith in
+      ap (λ (l : List ℕ). get_or l j 0) as_chunk
+      ∙ ap (λ (i : ℕ). get_or (put_chunk s before here) i 0) k
+      ∙ get_or-put_chunk_at s before here (j - s) 0 (omega arith) (omega arith)
+
+module _ (s n : ℕ) (before : List ℕ) (long : 0 < n) (room : s + n ≤ length before) where
+  filled :
+      {after : List ℕ} → list_any is_mark (slice_range before s (s + n)) ≡ false
+      → after ≡ take s before ++ (marks_of (length (slice_range before s (s + n))) ++ drop (s + n) before) → Filled s n before after
+  filled {after} h e =
+      record {
+        free = λ j a b. ap (λ (i : ℕ). get_or before i 0) (at j a) ∙ sym (part_at s n before (j - s) (omega arith)) ∙ no_mark (slice_range before s (s + n)) h (j - s);
+        first = now_here s n before (marks_of n) after many room f s (omega arith) (omega arith) ∙ ap (λ (i : ℕ). get_or (marks_of n) i 0) (omega arith) ∙ get_or-set_same (replicate n 1) 0 (n + 1) 0 (omega (arith, ones));
+        inside = λ j a b. now_here s n before (marks_of n) after many room f j (omega arith) b ∙ get_or-set_other (replicate n 1) 0 (j - s) (n + 1) 0 (λ x. omega arith) ∙ get_or-replicate n (j - s) 1 0 (omega arith);
+        below = below-kept s n before (marks_of n) after many room f;
+        above = above-kept s n before (marks_of n) after many room f;
+      }
+    where
+      ones : length {A = ℕ} (replicate n 1) ≡ n
+      ones = length-replicate n 1
+
+      many : length (marks_of n) ≡ n
+      many = length-set (replicate n 1) 0 (n + 1) ∙ ones
+
+      at : (j : ℕ) → s ≤ j → j ≡ s + (j - s)
+      at j a = omega arith
+
+      f : after ≡ take s before ++ (marks_of n ++ drop (s + n) before)
+      f = e ∙ ap (λ (m : ℕ). take s before ++ (marks_of m ++ drop (s + n) before)) (part_length s n before room)
+
 -- ---- the marks of the places before p, and p's clause
 
-module _ (opens : ℕ → Clause) (sized : (q : ℕ) → Sized (opens q)) (p : ℕ) (marks : List ℕ) (m : Marked opens p marks) where
+module _ (opens : ℕ → Option Clause) (sized : (q : ℕ) → Sized (opens q)) (p : ℕ) (marks : List ℕ) (m : Marked opens p marks) where
   still_covered : (j : ℕ) → Covered opens p j → Covered opens (suc p) j
   still_covered j c =
       record { opener = c.opener; earlier = omega (arith, c.earlier); from_start = c.from_start; to_end = c.to_end }
@@ -177,55 +276,88 @@ module _ (opens : ℕ → Clause) (sized : (q : ℕ) → Sized (opens q)) (p : �
     Says true after = Fit limit opens p → ⊥
 
     claimed-says :
-        {r : Bool} {after : List ℕ} → 0 < (length_of (opens p)).0 → (behind (opens p)).0 ≤ limit
-        → Claimed (start_of (opens p)).0 (length_of (opens p)).0 marks r after → Says r after
-    claimed-says long room (again h) = (record { inside = room; apart = again-apart long h }, again-marked long h)
-    claimed-says long room (claims f) = (record { inside = room; apart = free-apart long f.free }, filled-marked long f)
-    claimed-says long room (clashes j a b x y) = λ z. clash-not-apart long j a b x y z.apart
+        {r : Bool} {here after : List ℕ} → 0 < (length_of (opens p)).0 → (behind (opens p)).0 ≤ limit → limit ≤ length marks
+        → Claimed (slice_range marks (start_of (opens p)).0 (behind (opens p)).0) r here
+        → after ≡ take (start_of (opens p)).0 marks ++ (here ++ drop (behind (opens p)).0 marks) → Says r after
+    claimed-says {after = after} long inside room (again h) e =
+        let same : after ≡ marks = e ∙ sym (split_between marks (start_of (opens p)).0 (behind (opens p)).0 (omega arith)) in
+        let first = sym (at_start (start_of (opens p)).0 (length_of (opens p)).0 marks long) ∙ h ∙ ap add_one (part_length (start_of (opens p)).0 (length_of (opens p)).0 marks (omega arith)) in
+        subst (Says false) (sym same) (record { inside = inside; apart = again-apart long first }, again-marked long first)
+    claimed-says long inside room (claims h) e =
+        let f = filled (start_of (opens p)).0 (length_of (opens p)).0 marks long (omega arith) h e in
+        (record { inside = inside; apart = free-apart long f.free }, filled-marked long f)
+    claimed-says long inside room (clashes h n) e =
+        let there = some_mark (slice_range marks (start_of (opens p)).0 (behind (opens p)).0) h in
+        let few = part_length (start_of (opens p)).0 (length_of (opens p)).0 marks (omega arith) in
+        λ z.
+        clash-not-apart long ((start_of (opens p)).0 + there.place) (omega arith) (omega (arith, there.within_it, few))
+        (λ y. there.marked_there (part_at (start_of (opens p)).0 (length_of (opens p)).0 marks there.place (omega (arith, there.within_it, few)) ∙ y))
+        (λ y. n (at_start (start_of (opens p)).0 (length_of (opens p)).0 marks long ∙ y ∙ ap add_one (sym few)))
+        z.apart
 
-    found-says : {r : Bool} {after : List ℕ} → Found limit (start_of (opens p)).0 (length_of (opens p)).0 marks r after → Says r after
-    found-says (empty z) = (record { inside = omega (arith, (sized p).none z); apart = empty-apart z }, empty-marked z)
-    found-says (outside l) = λ z. omega (arith, z.inside)
-    found-says (within long room c) = claimed-says long room c
+    found-says :
+        {r : Bool} {after : List ℕ} → 0 < (length_of (opens p)).0 → limit ≤ length marks
+        → Found limit (start_of (opens p)).0 (length_of (opens p)).0 marks r after → Says r after
+    found-says long room (outside l) = λ z. omega (arith, z.inside)
+    found-says long room (within inside c e) = claimed-says long inside room c e
+
+    -- a place without a clause leaves the marks
+    none-says : opens p ≡ None → Says false marks
+    none-says e =
+        let z : (length_of (opens p)).0 ≡ 0 = ap (λ (k : Option Clause). (length_of k).0) e in
+        (record { inside = omega (arith, (sized p).none z); apart = empty-apart z }, empty-marked z)
 
 -- ---- place by place
 
 -- all places before p are fit, and the marks are those of their clauses
-pub record Searching (opens : ℕ → Clause) (n limit p : ℕ) (marks : List ℕ) : Type 0 where
+pub record Searching (opens : ℕ → Option Clause) (n limit p : ℕ) (marks : List ℕ) : Type 0 where
   pub near : p ≤ n
   pub fit : (q : ℕ) → q < p → Fit limit opens q
   pub marked : Marked opens p marks
 
-module _ (opens : ℕ → Clause) (sized : (q : ℕ) → Sized (opens q)) (n limit p : ℕ) (marks : List ℕ) (g : Searching opens n limit p marks) where
-  module _ {r : Range} (here : r ≡ range_of (opens p)) where
+module _ (opens : ℕ → Option Clause) (sized : (q : ℕ) → Sized (opens q)) (n limit p : ℕ) (marks : List ℕ) (g : Searching opens n limit p marks) where
+  -- p's clause is apart too
+  next : {after : List ℕ} → p < n → Says opens sized p marks g.marked limit false after → Searching opens n limit (p + 1) after
+  next {after} l z =
+      subst (λ (q : ℕ). Searching opens n limit q after) (sym (add-one p))
+      record {
+        near = l;
+        fit = λ q k. last_or (Fit limit opens) p q k (g.fit q) z.0;
+        marked = z.1;
+      }
+
+  pub searching-none : p < n → opens p ≡ None → Searching opens n limit (p + 1) marks
+  searching-none l e = next l (none-says opens sized p marks g.marked limit e)
+
+  module _ {c : Clause} (is : opens p ≡ Some c) {r : Range} (here : r ≡ range_in_64 (range_of c)) where
+    starts : r.start.0 ≡ (start_of (opens p)).0
+    starts = ap (λ (x : Range). x.start.0) here ∙ ap (λ (k : Option Clause). (start_of k).0) (sym is)
+
     size_exact : r.size.0 ≡ (length_of (opens p)).0
     size_exact =
-        let a : r.size.0 ≡ min (length_of (opens p)).0 (2 ^ 64 - 1) = ap (λ (x : Range). x.size.0) here in
+        let a : r.size.0 ≡ min (range_of c).size.0 (2 ^ 64 - 1) = ap (λ (x : Range). x.size.0) here in
+        let b : (length_of (opens p)).0 ≡ (range_of c).size.0 = ap (λ (k : Option Clause). (length_of k).0) is in
         omega (arith, (sized p).few)
 
-    pub searching-few : r.size.0 ≤ 128
-    searching-few = omega (arith, size_exact, (sized p).few)
+    long : 0 < (length_of (opens p)).0
+    long = let b : (length_of (opens p)).0 ≡ (range_of c).size.0 = ap (λ (k : Option Clause). (length_of k).0) is in omega (arith, (sized p).some c is)
 
-    says : {found : Bool} {after : List ℕ} → Found limit r.start.0 r.size.0 marks found after → Says opens sized p marks g.marked limit found after
-    says {found} {after} f =
-        found-says opens sized p marks g.marked limit
-        (subst (λ (m : ℕ). Found limit (start_of (opens p)).0 m marks found after) size_exact
-        (subst (λ (x : Range). Found limit x.start.0 r.size.0 marks found after) here f))
+    pub searching-sized : (0 < r.size.0) × (r.size.0 ≤ 128)
+    searching-sized = (omega (arith, size_exact, long), omega (arith, size_exact, (sized p).few))
 
-    module _ (l : p < n) {after : List ℕ} {found : Bool} (f : Found limit r.start.0 r.size.0 marks found after) where
-      pub searching-next : {next : ℕ} → found ≡ false → next ≡ suc p → Searching opens n limit next after
-      searching-next t e =
-          let z = subst (λ (x : Bool). Says opens sized p marks g.marked limit x after) t (says f) in
-          rw e
-          record {
-            near = l;
-            fit = λ q k. last_or (Fit limit opens) p q k (g.fit q) z.0;
-            marked = z.1;
-          }
+    module _ (l : p < n) (room : limit ≤ length marks) {after : List ℕ} {found : Bool} (f : Found limit r.start.0 r.size.0 marks found after) where
+      says : Says opens sized p marks g.marked limit found after
+      says =
+          found-says opens sized p marks g.marked limit long room
+          (subst (λ (m : ℕ). Found limit (start_of (opens p)).0 m marks found after) size_exact
+          (subst (λ (s : ℕ). Found limit s r.size.0 marks found after) starts f))
+
+      pub searching-next : found ≡ false → Searching opens n limit (p + 1) after
+      searching-next t = next l (subst (λ (x : Bool). Says opens sized p marks g.marked limit x after) t says)
 
       pub searching-found : found ≡ true → FirstUnfit limit opens n p
       searching-found t =
-          let z = subst (λ (x : Bool). Says opens sized p marks g.marked limit x after) t (says f) in
+          let z = subst (λ (x : Bool). Says opens sized p marks g.marked limit x after) t says in
           record { at_most = omega arith; fit_before = g.fit; unfit_there = λ k. z }
 
   pub searching_none : n ≤ p → FirstUnfit limit opens n n
@@ -234,7 +366,7 @@ module _ (opens : ℕ → Clause) (sized : (q : ℕ) → Sized (opens q)) (n lim
       record { at_most = omega arith; fit_before = rw e at g.fit; unfit_there = λ k. absurd (omega arith) }
 
 pub searching_first :
-    (opens : ℕ → Clause) (n limit : ℕ) (marks : List ℕ) → ((j : ℕ) → get_or marks j 0 ≡ 0) → Searching opens n limit 0 marks
+    (opens : ℕ → Option Clause) (n limit : ℕ) (marks : List ℕ) → ((j : ℕ) → get_or marks j 0 ≡ 0) → Searching opens n limit 0 marks
 searching_first opens n limit marks h =
     record {
       near = omega arith;
@@ -264,73 +396,3 @@ not_apart_first w e {whole} {behind} {n} {limit} {r} l a b c d f =
     let z : n ≡ min (suc e.0) (quadwords_in w) = omega arith in
     let m : limit ≡ marked_in w = omega arith in
     subst (λ (k : ℕ). FirstUnfit (marked_in w) (clause_at w) k r) z (subst (λ (k : ℕ). FirstUnfit k (clause_at w) n r) m f)
-
-pub unmarked :
-    (w : List ℕ) {whole : Quadwords} {n limit : ℕ} (b room : ℕ) → whole ≡ whole_quadwords (words (length w)) → n ≡ min b whole.0 → limit ≤ room
-    → Unmarked w n limit (replicate room 0)
-unmarked w {whole} {n} b room a c d =
-    let x : whole.0 ≡ quadwords_in w = ap (λ (q : Quadwords). q.0) a in
-    record { in_words = omega arith; room = omega (arith, length-replicate {A = ℕ} room 0); free = none_marked room }
-
--- ---- a range marked quadword by quadword
-
--- the quadwords from s up to k were free and are marked
-pub record Filling (s n : ℕ) (before marks : List ℕ) (k : ℕ) : Type 0 where
-  pub from_start : s ≤ k
-  pub to_end : k ≤ s + n
-  pub same_length : length marks ≡ length before
-  pub free : (j : ℕ) → s ≤ j → j < k → get_or before j 0 ≡ 0
-  pub ones : (j : ℕ) → s ≤ j → j < k → get_or marks j 0 ≡ 1
-  pub below : (j : ℕ) → j < s → get_or marks j 0 ≡ get_or before j 0
-  pub above : (j : ℕ) → k ≤ j → get_or marks j 0 ≡ get_or before j 0
-
-module _ (s n : ℕ) (before : List ℕ) where
-  pub filling_none : Filling s n before before s
-  filling_none =
-      record {
-        from_start = omega arith;
-        to_end = omega arith;
-        same_length = refl;
-        free = λ j a b. absurd (omega arith);
-        ones = λ j a b. absurd (omega arith);
-        below = λ j a. refl;
-        above = λ j a. refl;
-      }
-
-  module _ (marks : List ℕ) (k : ℕ) (f : Filling s n before marks k) where
-    pub filling-next : k < s + n → s + n ≤ length before → get_or marks k 0 ≡ 0 → Filling s n before (set marks k 1) (k + 1)
-    filling-next l r z =
-        record {
-          from_start = omega (arith, f.from_start);
-          to_end = omega arith;
-          same_length = length-set marks k 1 ∙ f.same_length;
-          free =
-              λ j a b.
-              order j k (λ lt. f.free j a lt) (λ e. rw e (sym (f.above k (le_refl k)) ∙ z)) (λ gt. absurd (omega arith));
-          ones =
-              λ j a b.
-              order j k (λ lt. get_or-set_other marks k j 1 0 (λ e. omega arith) ∙ f.ones j a lt)
-              (λ e. rw e (get_or-set_same marks k 1 0 (omega (arith, f.same_length))))
-              (λ gt. absurd (omega arith));
-          below = λ j a. get_or-set_other marks k j 1 0 (λ e. omega (arith, f.from_start)) ∙ f.below j a;
-          above = λ j a. get_or-set_other marks k j 1 0 (λ e. omega arith) ∙ f.above j (omega arith);
-        }
-
-    pub filling-all :
-        {first : ℕ} → first ≡ n + 1 → 0 < n → s + n ≤ k → s + n ≤ length before
-        → Claimed s n before false (set marks s first)
-    filling-all {first} e l a r =
-        claims
-        record {
-          free = λ j b c. f.free j b (omega arith);
-          first = get_or-set_same marks s first 0 (omega (arith, f.same_length)) ∙ e;
-          inside = λ j b c. get_or-set_other marks s j first 0 (λ x. omega arith) ∙ f.ones j (omega arith) (omega arith);
-          below = λ j b. get_or-set_other marks s j first 0 (λ x. omega arith) ∙ f.below j b;
-          above = λ j b. get_or-set_other marks s j first 0 (λ x. omega arith) ∙ f.above j (omega (arith, f.to_end));
-        }
-
-    pub filling-clash :
-        {first : ℕ} → first ≡ n + 1 → k < s + n → (get_or marks k 0 ≡ 0 → ⊥) → (get_or before s 0 ≡ first → ⊥)
-        → Claimed s n before true marks
-    filling-clash e l x y =
-        clashes k f.from_start l (λ z. x (f.above k (le_refl k) ∙ z)) (λ z. y (z ∙ sym e))

@@ -1,6 +1,6 @@
 -- What only the code's contracts cite: what is known of the clauses opened so far. As long as each lies behind those before it, or is the highest
 -- once more, that is where they end; from the first that does not, it is the first place that breaks the rule.
-use Rattle.std.specs.Prelude.{ℕ, suc, ◌+◌, ◌≤◌, ◌<◌, min, ◌≡◌, Bool, true, false, not, ◌&&◌, ◌||◌, Option, None, List, eqb, length, get_or, replicate, slice_range, slice_set}
+use Rattle.std.specs.Prelude.{ℕ, suc, ◌+◌, ◌≤◌, ◌<◌, min, ◌≡◌, Bool, true, false, not, ◌&&◌, ◌||◌, Option, None, List, ◌++◌, eqb, length, get_or, take, drop, replicate, slice_range, slice_set}
 use Rattle.std.specs.List.{list_any}
 use Rattle.units.specs.declared.Quadwords.{Quadwords}
 use Rattle.units.specs.Units.{quadwords, words, whole_quadwords, is_at_most}
@@ -101,19 +101,22 @@ pub record Marked (opens : ℕ → Option Clause) (p : ℕ) (marks : List ℕ) :
   pub goes_on : (q j : ℕ) → q < p → (start_of (opens q)).0 < j → j < (behind (opens q)).0 → get_or marks j 0 ≡ 1
   pub only : (j : ℕ) → (get_or marks j 0 ≡ 0 → ⊥) → Covered opens p j
 
+abbrev pub is_mark : ℕ → Bool
+is_mark m = not (eqb m 0)
+
 -- the marks of a range of n quadwords
 abbrev pub marks_of : ℕ → List ℕ
 marks_of n = slice_set (replicate n 1) 0 (n + 1)
 
--- what is found of the quadwords of a range, by their marks: it is marked already, it was free and is marked now, or another lies there
+-- what is found of a range by its quadwords' marks: it is marked already, it was free and is marked now, or another lies there
 pub data Claimed (before : List ℕ) : Bool → List ℕ → Type 0 where
   again : get_or before 0 0 ≡ length before + 1 → Claimed before false before
-  claims : list_any (λ m. not (eqb m 0)) before ≡ false → Claimed before false (marks_of (length before))
-  clashes : list_any (λ m. not (eqb m 0)) before ≡ true → (get_or before 0 0 ≡ length before + 1 → ⊥) → Claimed before true before
+  claims : list_any is_mark before ≡ false → Claimed before false (marks_of (length before))
+  clashes : list_any is_mark before ≡ true → (get_or before 0 0 ≡ length before + 1 → ⊥) → Claimed before true before
 
--- and of n quadwords from s on, which may not end by the limit
+-- and of n quadwords from s on: they do not end by the limit, or that is found of them
 pub data Found (limit s n : ℕ) (before : List ℕ) : Bool → List ℕ → Type 0 where
   outside : limit < s + n → Found limit s n before true before
   within :
-      {r : Bool} {after : List ℕ} → s + n ≤ limit → Claimed (slice_range before s (s + n)) r (slice_range after s (s + n))
-      → ((j : ℕ) → (s ≤ j → s + n ≤ j) → get_or after j 0 ≡ get_or before j 0) → Found limit s n before r after
+      {r : Bool} {here after : List ℕ} → s + n ≤ limit → Claimed (slice_range before s (s + n)) r here
+      → after ≡ take s before ++ (here ++ drop (s + n) before) → Found limit s n before r after

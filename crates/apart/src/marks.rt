@@ -1,7 +1,8 @@
 // The search for a clause that is not apart from those before it: a mark to each quadword (specs/Code.antt, "marks").
 ghost use Rattle.std.specs.Prelude.{◌≡◌, ◌+◌, ◌≤◌, ◌<◌, length};
 ghost use Rattle.section.specs.Rules.{clause_at};
-ghost use Rattle.apart.specs.Code.{FirstUnfit, FirstNotApart, Claimed, Found, quadwords_in};
+ghost use Rattle.std.specs.List.{list_any};
+ghost use Rattle.apart.specs.Code.{FirstUnfit, FirstNotApart, Claimed, Found, quadwords_in, is_mark};
 
 use section::{Clause, Range};
 use units::{Quadwords, Words};
@@ -29,7 +30,7 @@ pub(crate) fn first_not_apart(words: &[u32], end: Quadwords) -> Quadwords
 // Place by place, with the marks of the clauses before it.
 fn first_unfit<const ROOM: usize>(words: &[u32], pairs: Quadwords, limit: Quadwords) -> Quadwords
     requires in_words { pairs.0 ≤ quadwords_in words.now }
-    requires room { limit.0 ≤ ROOM }
+    requires room { (limit.0 ≤ ROOM) × (ROOM ≤ 8192) }
     ensures { FirstUnfit limit.0 (clause_at words.now) pairs.0 result.0 }
 {
     let mut marks = [0u8; ROOM];
@@ -77,10 +78,16 @@ fn has_clash(marks: &mut [u8]) -> bool
     if marks[0] == first {
         return false;
     }
-    if marks.iter().any(|mark| *mark != 0) {
+    if has_mark(marks) {
         return true;
     }
     marks.fill(1);
     marks[0] = first;
     false
+}
+
+fn has_mark(marks: &[u8]) -> bool
+    ensures { result ≡ list_any is_mark marks.now }
+{
+    marks.iter().any(|mark| *mark != 0)
 }
