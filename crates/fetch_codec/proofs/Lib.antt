@@ -1,1 +1,3 @@
 -- The laws that proofs cite, here and in the crates above.
+pub mod RoundTrip
+pub mod OfNumbers

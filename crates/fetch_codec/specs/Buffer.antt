@@ -27,11 +27,11 @@ abbrev pub Decoded : Type 0
 Decoded = Result Fetch DecodeError
 
 -- four words in a clause of that kind: what rule 8 refuses is not taken, and everything else is a record
-unfoldable pub four_of : FetchKind → ℕ → ℕ → ℕ → ℕ → Decoded
+abbrev pub four_of : FetchKind → ℕ → ℕ → ℕ → ℕ → Decoded
 four_of kind w0 w1 w2 w3 = cond (bad_fetch kind (FETCH_INST of w0) w3) (Err NotTaken) (Ok (fetch_of kind w0 w1 w2))
 
 -- the fetch at start, where it is wholly in the words
-unfoldable pub decode_of : Clause → List ℕ → Words → Decoded
+abbrev pub decode_of : Clause → List ℕ → Words → Decoded
 decode_of clause l start =
     cond (room 4 l start.0)
     (four_of (kind_of clause) (get_or l start.0 0) (get_or l (start.0 + 1) 0) (get_or l (start.0 + 2) 0) (get_or l (start.0 + 3) 0))
@@ -43,10 +43,10 @@ abbrev pub found_in : FetchKind → ℕ → ℕ → ℕ → Found
 found_in Texture w0 w1 w2 = found.Tex w0 w1 w2
 found_in Vertex w0 w1 w2 = cond (is_semantic Vertex (FETCH_INST of w0)) (found.VtxSem w0 w1 w2) (found.VtxGpr w0 w1 w2)
 
-unfoldable pub four_found : FetchKind → ℕ → ℕ → ℕ → ℕ → Result Found DecodeError
+abbrev pub four_found : FetchKind → ℕ → ℕ → ℕ → ℕ → Result Found DecodeError
 four_found kind w0 w1 w2 w3 = cond (bad_fetch kind (FETCH_INST of w0) w3) (Err NotTaken) (Ok (found_in kind w0 w1 w2))
 
-unfoldable pub found_of : Clause → List ℕ → Words → Result Found DecodeError
+abbrev pub found_of : Clause → List ℕ → Words → Result Found DecodeError
 found_of clause l start =
     cond (room 4 l start.0)
     (four_found (kind_of clause) (get_or l start.0 0) (get_or l (start.0 + 1) 0) (get_or l (start.0 + 2) 0) (get_or l (start.0 + 3) 0))
@@ -85,7 +85,7 @@ decoded_verdict (Err NotTaken) = refused 8
 decoded_verdict (Ok f) = Accepted
 
 -- 2 if the four words aren't wholly in the words, else 8 by that rule, and otherwise always a record
-unfoldable pub decode_number : Clause → List ℕ → Words → ℕ
+abbrev pub decode_number : Clause → List ℕ → Words → ℕ
 decode_number clause l start =
     cond (room 4 l start.0)
     (cond (bad_fetch (kind_of clause) (FETCH_INST of (get_or l start.0 0)) (get_or l (start.0 + 3) 0)) 8 0)

@@ -23,7 +23,7 @@ kind_of clause.VtxTc = Vertex
 -- ---- from words
 
 -- a vertex fetch has a semantic id (number 1) or a destination register
-unfoldable pub vertex_of : ℕ → ℕ → ℕ → Fetch
+abbrev pub vertex_of : ℕ → ℕ → ℕ → Fetch
 vertex_of w0 w1 w2 =
     cond (is_semantic Vertex (FETCH_INST of w0)) (VtxSem (vtx.word0_of w0) (vtx.sem_of w1) (vtx.word2_of w2))
     (VtxGpr (vtx.word0_of w0) (vtx.gpr_of w1) (vtx.word2_of w2))
