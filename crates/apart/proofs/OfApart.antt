@@ -8,11 +8,10 @@ use Rattle.std.specs.Prelude.{Option, Some, None}
 use native.Mathlib.Nat.{le_of_suc-le-suc, eq-or-lt_of_le, le_refl, le_step}
 use native.Mathlib.Omega.{arith}
 use lib.Dec.{eqb, ltb}
-use borrow.Author.Tests.{eqb-true, eqb-false, eq-eqb, ne_eqb, ltb-true, ltb-false, leb-true, leb-false, le-leb}
+use borrow.Author.Tests.{eqb-true, eqb-false, eq-eqb, ltb-true, ltb-false, leb-true, leb-false, le-leb}
 use Rattle.laws.proofs.OfCases.{impossible}
 use Rattle.laws.proofs.OfTests.{both, by_test_lem}
 use Rattle.units.specs.declared.Quadwords.{Quadwords}
-use Rattle.units.specs.declared.Slots.{Slots}
 use Rattle.units.specs.Units.{quadwords, slots, low_at, high_at, range_end, is_at_most}
 use Rattle.units.specs.Code.{quadwords_in_64}
 use Rattle.checks.specs.declared.Place.TheVariants.{Quadword}

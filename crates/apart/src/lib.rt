@@ -67,9 +67,7 @@ fn is_clear(seen: Seen, start: Quadwords, end: Quadwords) -> bool
     ensures { result ≡ is_clear seen start end }
 {
     match seen {
-        Seen::Rising { behind, highest } => {
-            behind <= start || highest == start && behind == end
-        }
+        Seen::Rising { behind, highest } => behind <= start || highest == start && behind == end,
         Seen::Asked(_) => true,
     }
 }

@@ -6,7 +6,7 @@ use lib.ListN.{length, replicate, length-replicate}
 use Prim.Native.Nat.{ℕ, ◌≤◌}
 use Rattle.section.specs.Rules.{clause_at}
 use Rattle.apart.proofs.OfApart.{sized_at}
-use Rattle.apart.proofs.OfMarks.{searching_first, searching-none, searching-sized, searching-next, searching-found, searching_none, none_marked}
+use Rattle.apart.proofs.OfMarks.{searching-none, searching-sized, searching-next, searching-found}
 use Rattle.apart.proofs.marks.first_unfit.Goals as goal
 
 -- the marks have room up to the limit
