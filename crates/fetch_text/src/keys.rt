@@ -1,14 +1,94 @@
-// The keys of each form's fields: AMD's names in AMD's order, each with an equals sign behind it. The names are those of the tables
-// in crate formats; what is done by these is proved to be done by those.
+// The names of each form's fields: AMD's, in AMD's order. They are those of the tables in crate formats; what is done by these is proved to be
+// done by those.
 
 // Those of a texture fetch.
-pub(crate) const TEX: [u8; 309] =
-    *b"TEX_INST=BC_FRAC_MODE=RESERVED0_6=FETCH_WHOLE_QUAD=RESOURCE_ID=SRC_GPR=SRC_REL=ALT_CONST=RESERVED0_25=DST_GPR=DST_REL=RESERVED1_8=DST_SEL_X=DST_SEL_Y=DST_SEL_Z=DST_SEL_W=LOD_BIAS=COORD_TYPE_X=COORD_TYPE_Y=COORD_TYPE_Z=COORD_TYPE_W=OFFSET_X=OFFSET_Y=OFFSET_Z=SAMPLER_ID=SRC_SEL_X=SRC_SEL_Y=SRC_SEL_Z=SRC_SEL_W=";
+pub(crate) const TEX: [&str; 29] = [
+    "TEX_INST",
+    "BC_FRAC_MODE",
+    "RESERVED0_6",
+    "FETCH_WHOLE_QUAD",
+    "RESOURCE_ID",
+    "SRC_GPR",
+    "SRC_REL",
+    "ALT_CONST",
+    "RESERVED0_25",
+    "DST_GPR",
+    "DST_REL",
+    "RESERVED1_8",
+    "DST_SEL_X",
+    "DST_SEL_Y",
+    "DST_SEL_Z",
+    "DST_SEL_W",
+    "LOD_BIAS",
+    "COORD_TYPE_X",
+    "COORD_TYPE_Y",
+    "COORD_TYPE_Z",
+    "COORD_TYPE_W",
+    "OFFSET_X",
+    "OFFSET_Y",
+    "OFFSET_Z",
+    "SAMPLER_ID",
+    "SRC_SEL_X",
+    "SRC_SEL_Y",
+    "SRC_SEL_Z",
+    "SRC_SEL_W",
+];
 
 // Those of a vertex fetch that names its destination register.
-pub(crate) const VTX_GPR: [u8; 304] =
-    *b"VTX_INST=FETCH_TYPE=FETCH_WHOLE_QUAD=BUFFER_ID=SRC_GPR=SRC_REL=SRC_SEL_X=MEGA_FETCH_COUNT=DST_GPR=DST_REL=RESERVED1_8=DST_SEL_X=DST_SEL_Y=DST_SEL_Z=DST_SEL_W=USE_CONST_FIELDS=DATA_FORMAT=NUM_FORMAT_ALL=FORMAT_COMP_ALL=SRF_MODE_ALL=OFFSET=ENDIAN_SWAP=CONST_BUF_NO_STRIDE=MEGA_FETCH=ALT_CONST=RESERVED2_21=";
+pub(crate) const VTX_GPR: [&str; 26] = [
+    "VTX_INST",
+    "FETCH_TYPE",
+    "FETCH_WHOLE_QUAD",
+    "BUFFER_ID",
+    "SRC_GPR",
+    "SRC_REL",
+    "SRC_SEL_X",
+    "MEGA_FETCH_COUNT",
+    "DST_GPR",
+    "DST_REL",
+    "RESERVED1_8",
+    "DST_SEL_X",
+    "DST_SEL_Y",
+    "DST_SEL_Z",
+    "DST_SEL_W",
+    "USE_CONST_FIELDS",
+    "DATA_FORMAT",
+    "NUM_FORMAT_ALL",
+    "FORMAT_COMP_ALL",
+    "SRF_MODE_ALL",
+    "OFFSET",
+    "ENDIAN_SWAP",
+    "CONST_BUF_NO_STRIDE",
+    "MEGA_FETCH",
+    "ALT_CONST",
+    "RESERVED2_21",
+];
 
 // Those of a vertex fetch with a semantic id.
-pub(crate) const VTX_SEM: [u8; 300] =
-    *b"VTX_INST=FETCH_TYPE=FETCH_WHOLE_QUAD=BUFFER_ID=SRC_GPR=SRC_REL=SRC_SEL_X=MEGA_FETCH_COUNT=SEMANTIC_ID=RESERVED1_8=DST_SEL_X=DST_SEL_Y=DST_SEL_Z=DST_SEL_W=USE_CONST_FIELDS=DATA_FORMAT=NUM_FORMAT_ALL=FORMAT_COMP_ALL=SRF_MODE_ALL=OFFSET=ENDIAN_SWAP=CONST_BUF_NO_STRIDE=MEGA_FETCH=ALT_CONST=RESERVED2_21=";
+pub(crate) const VTX_SEM: [&str; 25] = [
+    "VTX_INST",
+    "FETCH_TYPE",
+    "FETCH_WHOLE_QUAD",
+    "BUFFER_ID",
+    "SRC_GPR",
+    "SRC_REL",
+    "SRC_SEL_X",
+    "MEGA_FETCH_COUNT",
+    "SEMANTIC_ID",
+    "RESERVED1_8",
+    "DST_SEL_X",
+    "DST_SEL_Y",
+    "DST_SEL_Z",
+    "DST_SEL_W",
+    "USE_CONST_FIELDS",
+    "DATA_FORMAT",
+    "NUM_FORMAT_ALL",
+    "FORMAT_COMP_ALL",
+    "SRF_MODE_ALL",
+    "OFFSET",
+    "ENDIAN_SWAP",
+    "CONST_BUF_NO_STRIDE",
+    "MEGA_FETCH",
+    "ALT_CONST",
+    "RESERVED2_21",
+];

@@ -9,25 +9,26 @@ ghost use Rattle.std.specs.Prelude.{◌≡◌, replicate};
 ghost use Rattle.fetch_codec.specs.Buffer.{decode_of};
 ghost use Rattle.fetch_text.specs.Text.{HoldsText, shown_of, shown_after};
 ghost use Rattle.fetch_text.specs.Edit.{edit_of, edited_words, Promised};
+ghost use Rattle.fetch_text.specs.declared.ShowError.TheVariants as show;
+ghost use Rattle.fetch_text.specs.declared.EditError.TheVariants as edit;
 
 use fetch_codec::Clause;
-use report::Written;
-pub use rows::line_end;
-use rows::{RowEdit, RowRead};
+use microcode::DecodeError;
+use report::TooSmall;
+pub use rows::split_line;
+use settings::SettingError;
 use units::Words;
 
-// What is shown of the words at a start.
-#[derive(Clone, Copy)]
-pub enum Shown {
-    // The four words aren't wholly in the words.
-    Outside,
-    // Rule 8: the number isn't taken in that clause, or the fourth word isn't 0.
-    NotTaken,
-    Text(Written),
+// Why no text is shown of the words at a start.
+#[derive(Clone, Copy, Debug, PartialEq, Eq)]
+pub enum ShowError {
+    // By rule 8 or the words' end there is no fetch.
+    NoFetch(DecodeError),
+    TooSmall,
 }
 
 // What is wrong with a setting.
-#[derive(Clone, Copy)]
+#[derive(Clone, Copy, Debug, PartialEq, Eq)]
 pub enum Fault {
     // The form has no such field.
     NoField,
@@ -39,14 +40,36 @@ pub enum Fault {
     NotTaken,
 }
 
-// What became of an edit.
-#[derive(Clone, Copy)]
-pub enum Edit {
-    Outside,
-    NotTaken,
+// Why nothing is edited.
+#[derive(Clone, Copy, Debug, PartialEq, Eq)]
+pub enum EditError {
+    NoFetch(DecodeError),
     // The setting that starts behind so many bytes of the text is the first that is wrong.
-    Wrong(usize, Fault),
-    Done,
+    Wrong { at: usize, fault: Fault },
+}
+
+impl From<DecodeError> for ShowError {
+    ghost from_gives = { λ e r. r ≡ show.NoFetch e };
+
+    fn from(e: DecodeError) -> ShowError {
+        ShowError::NoFetch(e)
+    }
+}
+
+impl From<TooSmall> for ShowError {
+    ghost from_gives = { λ _ r. r ≡ show.TooSmall };
+
+    fn from(_: TooSmall) -> ShowError {
+        ShowError::TooSmall
+    }
+}
+
+impl From<DecodeError> for EditError {
+    ghost from_gives = { λ e r. r ≡ edit.NoFetch e };
+
+    fn from(e: DecodeError) -> EditError {
+        EditError::NoFetch(e)
+    }
 }
 
 // Room for the longest text of a fetch.
@@ -57,43 +80,27 @@ pub fn text_room() -> [u8; 628]
     [0; 628]
 }
 
-// Writes the fields of the fetch at `start` to the beginning of `out`, a line NAME=number each. Where they do not fit, or there is no fetch,
-// `out` stays as it was.
-pub fn write_fetch(clause: Clause, words: &[u32], start: Words, out: &mut [u8]) -> Shown
+// Writes the fields of the fetch at `start` to the beginning of `out`, a line NAME=number each, and answers how many bytes they have. Where
+// they do not fit, or there is no fetch, `out` stays as it was.
+pub fn write_fetch(clause: Clause, words: &[u32], start: Words, out: &mut [u8]) -> Result<usize, ShowError>
     ensures value { result ≡ shown_of (decode_of clause words.now start) out.old }
     ensures out_after { out.new ≡ shown_after (decode_of clause words.now start) out.old }
 {
     let mut row = [0u32; 32];
-    let read = rows::read_row(clause, words, start, &mut row);
-    match read {
-        RowRead::Outside => Shown::Outside,
-        RowRead::NotTaken => Shown::NotTaken,
-        RowRead::Taken => Shown::Text(rows::write_row(&row, out)),
-    }
+    rows::read_row(clause, words, start, &mut row)?;
+    Ok(rows::write_row(&row, out)?)
 }
 
 // Puts settings, a line NAME=number each, into the fetch at `start`. Where one is wrong, or there is no fetch, all words stay. What was
 // edited decodes to the edited fetch, and the text of a fetch makes any other of its form that fetch.
-pub fn edit_fetch(clause: Clause, words: &mut [u32], start: Words, settings: &[u8]) -> Edit
+pub fn edit_fetch(clause: Clause, words: &mut [u32], start: Words, settings: &[u8]) -> Result<(), EditError>
     ensures value { result ≡ edit_of (decode_of clause words.old start) settings.now }
     ensures words_after { words.new ≡ edited_words (decode_of clause words.old start) settings.now words.old start }
     ensures promised { Promised clause words.old words.new settings.now start result }
 {
     let mut row = [0u32; 32];
-    let read = rows::read_row(clause, words, start, &mut row);
-    match read {
-        RowRead::Outside => Edit::Outside,
-        RowRead::NotTaken => Edit::NotTaken,
-        RowRead::Taken => {
-            let done = rows::edit_row(&mut row, settings);
-            match done {
-                RowEdit::Wrong(at, fault) => Edit::Wrong(at, fault),
-                RowEdit::Done => {
-                    let at = start.0;
-                    codec_for_c::zlatomruk_encode_fetch(&row, words, at);
-                    Edit::Done
-                }
-            }
-        }
-    }
+    rows::read_row(clause, words, start, &mut row)?;
+    rows::edit_row(&mut row, settings)?;
+    rows::put_row(&row, words, start);
+    Ok(())
 }
