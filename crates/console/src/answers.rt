@@ -24,18 +24,22 @@ pub trait Answer {
 }
 
 // The report on an input.
+#[derive(Clone, Copy)]
 pub struct ReportOn<'a>(pub &'a [u8]);
 
 // The report on a card's file and a pack's.
+#[derive(Clone, Copy)]
 pub struct ReportOnFiles<'a> {
     pub card: &'a [u8],
     pub pack: &'a [u8],
 }
 
 // The explanation of what is answered to an input.
+#[derive(Clone, Copy)]
 pub struct ExplanationOf<'a>(pub &'a [u8]);
 
 // And to a card's file and a pack's.
+#[derive(Clone, Copy)]
 pub struct ExplanationOfFiles<'a> {
     pub card: &'a [u8],
     pub pack: &'a [u8],

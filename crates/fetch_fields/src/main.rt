@@ -6,113 +6,92 @@
 mod arguments;
 mod messages;
 
-use arguments::{Kind, Settings};
-use card::Number;
-use console::Tool;
+use console::{PACK, Tool};
 use fetch_codec::Clause;
-use fetch_pack::{PackEdit, PackShown};
-use fetch_text::{Edit, Shown};
-use report::Written;
+use fetch_pack::PackError;
+use fetch_text::{EditError, ShowError};
+use messages::Teller;
+use std::io::Write;
 use std::rt::Env;
 use units::{Quadwords, Words};
 
 fn main(rt: HostRuntime) {
-    let errors = rt.stderr();
+    let mut errors = rt.stderr();
     if !console::is_given(&rt, 3) {
-        messages::say(
-            &errors,
+        let _ = errors.write_all(
             b"usage: fetch_fields TEX|VTX|VTX_TC QUADWORD PACK [NAME=number..]\n",
         );
         return;
     }
-    let Kind::Is(clause) = arguments::asked_kind(&rt) else {
-        messages::tell(&rt, &errors, b"no kind of fetch: ", 1, b"");
+    let mut room = console::room::<PACK>();
+    let mut teller = Teller { rt: &rt, errors: &mut errors };
+    let Some(clause) = arguments::asked_clause(&rt) else {
+        teller.tell("no kind of fetch: ", 1, "");
         return;
     };
-    let Number::Is(quadword) = arguments::quadword(&rt) else {
-        messages::tell(&rt, &errors, b"no number of a quadword: ", 2, b"");
+    let Some(quadword) = arguments::quadword(&rt) else {
+        teller.tell("no number of a quadword: ", 2, "");
         return;
     };
-    let mut pack = console::pack_room();
-    let read = console::read_argument(&rt, &mut rt.stderr(), Tool::Fetch, 3, &mut pack);
-    if console::is_failed(read) {
+    let Some(n) = console::read_argument(&rt, teller.errors, Tool::Fetch, 3, &mut room) else {
         return;
-    }
-    let n = console::bytes_read(read, &pack);
+    };
+    let pack = &mut room[..n];
     let start = units::low_word(Quadwords(quadword as usize));
-    if !console::is_given(&rt, 4) {
-        show(&rt, &errors, clause, &pack[..n], start);
-        return;
+    if console::is_given(&rt, 4) {
+        edit(&mut teller, clause, pack, start);
+    } else {
+        show(&mut teller, clause, pack, start);
     }
-    edit(&rt, &errors, clause, &mut pack[..n], start);
 }
 
-fn show(rt: &(impl Env + Print), errors: &impl Print, clause: Clause, pack: &[u8], start: Words) {
+fn show<R: Env + Print, E: Write>(
+    teller: &mut Teller<R, E>,
+    clause: Clause,
+    pack: &[u8],
+    start: Words,
+) {
     let mut text = fetch_text::text_room();
-    let shown = fetch_pack::show_fetch(clause, pack, start, &mut text);
-    match shown {
-        PackShown::TooLong => messages::tell_long(rt, errors),
-        PackShown::NotWhole => messages::tell_partial(rt, errors),
-        PackShown::Is(what) => match what {
-            Shown::Outside => messages::tell_outside(rt, errors),
-            Shown::NotTaken => messages::tell_not_taken(rt, errors, clause, pack, start),
-            Shown::Text(written) => write_text(rt, errors, written, &text),
-        },
+    match fetch_pack::show_fetch(clause, pack, start, &mut text) {
+        Ok(n) => write(teller, text.get(..n).unwrap_or(&[]), "the fields were"),
+        Err(PackError::TooLong) => teller.tell_long(),
+        Err(PackError::NotWhole) => teller.tell_partial(),
+        Err(PackError::Fetch(ShowError::NoFetch(why))) => {
+            teller.tell_no_fetch(why, clause, pack, start);
+        }
+        // There is room for every text, by what `text_room` promises.
+        Err(PackError::Fetch(ShowError::TooSmall)) => {}
     }
 }
 
-// A count beyond the text's length is not written: there is none, by what `show_fetch` promises.
-fn write_text(output: &impl Print, errors: &impl Print, written: Written, text: &[u8]) {
-    let Written::Length(n) = written else {
+fn edit<R: Env + Print, E: Write>(
+    teller: &mut Teller<R, E>,
+    clause: Clause,
+    pack: &mut [u8],
+    start: Words,
+) {
+    // Room for more settings than a fetch has fields, several times over.
+    let mut room = [0u8; 16384];
+    let Some(settings) = arguments::gather(teller.rt, &mut room) else {
+        let _ = teller.errors.write_all(b"fetch: the settings are too long\n");
         return;
     };
-    if n <= text.len() {
-        if output.write_all(&text[..n]).is_err() {
-            messages::say(errors, b"fetch: the fields were not written\n");
+    match fetch_pack::edit_fetch(clause, pack, start, settings) {
+        Ok(()) => write(teller, pack, "the pack was"),
+        Err(PackError::TooLong) => teller.tell_long(),
+        Err(PackError::NotWhole) => teller.tell_partial(),
+        Err(PackError::Fetch(EditError::NoFetch(why))) => {
+            teller.tell_no_fetch(why, clause, pack, start);
+        }
+        Err(PackError::Fetch(EditError::Wrong { at, fault })) => {
+            teller.tell_setting(settings, at, fault);
         }
     }
 }
 
-fn edit(
-    rt: &(impl Env + Print),
-    errors: &impl Print,
-    clause: Clause,
-    pack: &mut [u8],
-    start: Words,
-) {
-    let mut room = arguments::settings_room();
-    let Settings::Are(n) = arguments::gather(rt, &mut room) else {
-        messages::say(errors, b"fetch: the settings are too long\n");
-        return;
-    };
-    if n <= room.len() {
-        edit_by(rt, errors, clause, pack, start, &room[..n]);
-    }
-}
-
-fn edit_by(
-    rt: &(impl Env + Print),
-    errors: &impl Print,
-    clause: Clause,
-    pack: &mut [u8],
-    start: Words,
-    settings: &[u8],
-) {
-    let done = fetch_pack::edit_fetch(clause, pack, start, settings);
-    match done {
-        PackEdit::TooLong => messages::tell_long(rt, errors),
-        PackEdit::NotWhole => messages::tell_partial(rt, errors),
-        PackEdit::Is(what) => match what {
-            Edit::Outside => messages::tell_outside(rt, errors),
-            Edit::NotTaken => messages::tell_not_taken(rt, errors, clause, pack, start),
-            Edit::Wrong(at, fault) => messages::tell_setting(errors, settings, at, fault),
-            Edit::Done => write_pack(rt, errors, pack),
-        },
-    }
-}
-
-fn write_pack(output: &impl Print, errors: &impl Print, pack: &[u8]) {
-    if output.write_all(pack).is_err() {
-        messages::say(errors, b"fetch: the pack was not written\n");
+// Writes the fields or the pack to standard output.
+fn write<R: Env + Print, E: Write>(teller: &mut Teller<R, E>, bytes: &[u8], what: &str) {
+    if teller.rt.write_all(bytes).is_err() {
+        let _ = writeln!(teller.errors, "fetch: {what} not written");
     }
 }

@@ -4,78 +4,63 @@ use bits::read;
 use fetch_codec::Clause;
 use fetch_text::Fault;
 use formats::fields;
+use microcode::DecodeError;
+use opcodes::cf::FetchKind;
+use std::io::Write;
 use std::rt::Env;
 use units::Words;
 
-// An argument between two texts.
-pub(crate) fn tell(rt: &impl Env, errors: &impl Print, before: &[u8], i: usize, behind: &[u8]) {
-    say(errors, b"fetch: ");
-    say(errors, before);
-    say_argument(rt, errors, i);
-    say(errors, behind);
-    say(errors, b"\n");
+// Where messages go, and the arguments that they name. What can't be written is lost.
+#[derive(Drop)]
+pub(crate) struct Teller<'a, R, E> {
+    pub rt: &'a R,
+    pub errors: &'a mut E,
 }
 
-pub(crate) fn tell_long(rt: &impl Env, errors: &impl Print) {
-    tell(rt, errors, b"more than 8192 quadwords: ", 3, b"");
-}
-
-pub(crate) fn tell_partial(rt: &impl Env, errors: &impl Print) {
-    tell(rt, errors, b"not whole quadwords: ", 3, b"");
-}
-
-pub(crate) fn tell_outside(rt: &impl Env, errors: &impl Print) {
-    tell(rt, errors, b"quadword ", 2, b": not in the pack");
-}
-
-// By which part of rule 8: the number is not one of the kind's, or the fourth word is not 0.
-pub(crate) fn tell_not_taken(
-    rt: &impl Env,
-    errors: &impl Print,
-    clause: Clause,
-    pack: &[u8],
-    start: Words,
-) {
-    let number = read(input::word_of(pack, start), fields::FETCH_INST);
-    if opcodes::fetch_taken(fetch_codec::kind_of(clause), number) {
-        tell(rt, errors, b"quadword ", 2, b": its fourth word is not 0");
-        return;
+impl<R: Env, E: Write> Teller<'_, R, E> {
+    // Argument i between two texts.
+    pub fn tell(&mut self, before: &str, i: usize, behind: &str) {
+        let _ = write!(self.errors, "fetch: {before}");
+        self.say_argument(i);
+        let _ = writeln!(self.errors, "{behind}");
     }
-    say(errors, b"fetch: quadword ");
-    say_argument(rt, errors, 2);
-    say(errors, b": ");
-    say_argument(rt, errors, 1);
-    say(errors, b" does not take number ");
-    let _ = errors.print(number);
-    say(errors, b"\n");
-}
 
-// The setting that starts behind `at` bytes.
-pub(crate) fn tell_setting(errors: &impl Print, settings: &[u8], at: usize, fault: Fault) {
-    let start = units::smaller(at, settings.len());
-    say(errors, b"fetch: ");
-    say_line(errors, &settings[start..]);
-    match fault {
-        Fault::NoField => say(errors, b": no such field\n"),
-        Fault::NoNumber => say(errors, b": no number of 32 bits\n"),
-        Fault::TooWide => say(errors, b": beyond the field's width\n"),
-        Fault::NotTaken => say(errors, b": not a number of this form\n"),
+    pub fn tell_long(&mut self) {
+        self.tell("more than 8192 quadwords: ", 3, "");
     }
-}
 
-// The first line of a text.
-fn say_line(errors: &impl Print, text: &[u8]) {
-    let end = fetch_text::line_end(text);
-    say(errors, &text[..end]);
-}
+    pub fn tell_partial(&mut self) {
+        self.tell("not whole quadwords: ", 3, "");
+    }
 
-fn say_argument(rt: &impl Env, errors: &impl Print, i: usize) {
-    let mut room = [0u8; 4096];
-    let n = arguments::argument(rt, i, &mut room);
-    say(errors, &room[..n]);
-}
+    // Why there is no fetch. Of rule 8 by its part: the number is not one of the kind's, or the fourth word is not 0.
+    pub fn tell_no_fetch(&mut self, why: DecodeError, clause: Clause, pack: &[u8], start: Words) {
+        if why == DecodeError::Outside {
+            self.tell("quadword ", 2, ": not in the pack");
+            return;
+        }
+        let number = read(input::word_of(pack, start), fields::FETCH_INST);
+        if opcodes::fetch_taken(FetchKind::from(clause), number) {
+            self.tell("quadword ", 2, ": its fourth word is not 0");
+            return;
+        }
+        let _ = write!(self.errors, "fetch: quadword ");
+        self.say_argument(2);
+        let _ = write!(self.errors, ": ");
+        self.say_argument(1);
+        let _ = writeln!(self.errors, " does not take number {number}");
+    }
 
-// What can't be written is lost.
-pub(crate) fn say(errors: &impl Print, text: &[u8]) {
-    let _ = errors.write_all(text);
+    // The setting that starts behind `at` bytes.
+    pub fn tell_setting(&mut self, settings: &[u8], at: usize, fault: Fault) {
+        let (line, _) = fetch_text::split_line(settings.get(at..).unwrap_or(&[]));
+        let _ = write!(self.errors, "fetch: ");
+        let _ = self.errors.write_all(line);
+        let _ = writeln!(self.errors, ": {fault}");
+    }
+
+    fn say_argument(&mut self, i: usize) {
+        let mut room = [0u8; 4096];
+        let _ = self.errors.write_all(arguments::argument(self.rt, i, &mut room));
+    }
 }

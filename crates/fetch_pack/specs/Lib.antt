@@ -1,3 +1,2 @@
--- The root of what the contracts cite. Code is for the code alone; the other is what a reader has to believe.
+-- The root of what the contracts cite.
 pub mod Pack
-pub mod Code

@@ -32,7 +32,13 @@ pub record SettingPut (row after line : List ℕ) (answer : Result ⊤ Fault) : 
   pub told : answer ≡ unless (fault_of (fetch_in row) (setting_of (keys_of (fetch_in row)) line))
   pub put : OnOk answer (Changed row after (changed (keys_of (fetch_in row)) (values_of (fetch_in row)) line))
 
--- all settings of a text were, up to the first that is wrong
+-- the edited fetch stands in the row
+pub record Edited (row after text : List ℕ) : Type 0 where
+  pub holds : Holds after
+  pub form : form_of (fetch_values (fetch_in after)) ≡ form_of (fetch_values (fetch_in row))
+  pub fetch : fetch_in after ≡ edited (fetch_in row) (lines_in text)
+
+-- all settings of a text were put into the row, up to the first that is wrong
 pub record AllPut (row after text : List ℕ) (answer : Result ⊤ EditError) : Type 0 where
   pub told : answer ≡ unless (first_fault (fetch_in row) 0 (lines_in text))
-  pub put : OnOk answer (Holds after × (fetch_in after ≡ edited (fetch_in row) (lines_in text)))
+  pub put : OnOk answer (Edited row after text)

@@ -5,8 +5,7 @@
 // the answers that it gives; the others and what is to be written on them were made from the papers and not from this code.
 #![tactic(auto)]
 
-ghost use Rattle.std.specs.Prelude.{◌<◌};
-
+use console::{EXPLANATION, ExplanationOf, INPUT, ReportOn};
 use std::io;
 use std::io::{Read, Write};
 
@@ -16,84 +15,57 @@ const ASKED: usize = 5;
 
 const LABEL: usize = 6;
 
-// A digit's value; the byte of 0 is three times 16.
-fn digit(header: &[u8], i: usize) -> usize
-    ensures { result < 16 }
-{
-    if header.len() <= i {
-        return 0;
-    }
-    (header[i] % 16) as usize
+// Where cases come from, where their answers go, and room for both.
+#[derive(Drop)]
+struct Bench<'a, I, O, E> {
+    input: &'a mut I,
+    output: &'a mut O,
+    errors: &'a mut E,
+    bytes: &'a mut [u8],
+    room: &'a mut [u8],
 }
 
-// The five digits of a header.
-fn length_in(header: &[u8]) -> usize {
-    let high = digit(header, 0) * 10000 + digit(header, 1) * 1000;
-    high + digit(header, 2) * 100 + digit(header, 3) * 10 + digit(header, 4)
+impl<I: Read, O: Write, E: Write> Bench<'_, I, O, E> {
+    // Judges the case that comes next, and answers whether there was one.
+    fn next_case(&mut self) -> io::Result<bool> {
+        let mut header = [0u8; HEADER];
+        if console::read_all(self.input, &mut header)? < HEADER {
+            return Ok(false);
+        }
+        let Some(bytes) = self.bytes.get_mut(..length_in(&header)) else {
+            return Ok(false);
+        };
+        self.output.write_all(&header[LABEL..])?;
+        let n = console::read_all(self.input, bytes)?;
+        let report = ReportOn(&bytes[..n]);
+        console::write_answer(self.output, self.errors, &report, self.room);
+        if header[ASKED] == b'e' {
+            let explanation = ExplanationOf(&bytes[..n]);
+            console::write_answer(self.output, self.errors, &explanation, self.room);
+        }
+        Ok(true)
+    }
 }
 
-// Reads so many bytes as `bytes` has room for, judges them and explains the answer if asked.
-fn judge_next(
-    input: &mut impl Read,
-    output: &mut impl Write,
-    errors: &mut impl Write,
-    bytes: &mut [u8],
-    room: &mut [u8],
-    explained: bool,
-) -> io::Result<()> {
-    let n = console::read_all(input, bytes)?;
-    console::report_on(output, errors, &bytes[..n], room);
-    if explained {
-        console::explain_on(output, errors, &bytes[..n], room);
-    }
-    Ok(())
+// The five digits of a header. A digit's value is its byte by 16: the byte of 0 is three times 16.
+fn length_in(header: &[u8; HEADER]) -> usize {
+    header[..ASKED].iter().fold(0, |n: usize, digit| {
+        n.saturating_mul(10).saturating_add((*digit % 16) as usize)
+    })
 }
 
-// Judges the case that comes next, and answers whether there was one.
-fn next_case(
-    input: &mut impl Read,
-    output: &mut impl Write,
-    errors: &mut impl Write,
-    bytes: &mut [u8],
-    room: &mut [u8],
-) -> io::Result<bool> {
-    let mut header = [0u8; HEADER];
-    if console::read_all(input, &mut header)? < HEADER {
-        return Ok(false);
-    }
-    let n = length_in(&header);
-    if bytes.len() < n {
-        return Ok(false);
-    }
-    output.write_all(&header[LABEL..])?;
-    let explained = header[ASKED] == b'e';
-    judge_next(input, output, errors, &mut bytes[..n], room, explained)?;
-    Ok(true)
-}
-
-fn run(
-    input: &mut impl Read,
-    output: &mut impl Write,
-    errors: &mut impl Write,
-    bytes: &mut [u8],
-    room: &mut [u8],
-) -> io::Result<()> {
+fn main(rt: HostRuntime) -> io::Result<()> {
+    let mut bench = Bench {
+        input: &mut rt.stdin(),
+        output: &mut rt.stdout(),
+        errors: &mut rt.stderr(),
+        bytes: &mut console::room::<INPUT>(),
+        room: &mut console::room::<EXPLANATION>(),
+    };
     for _ in 0..10000u32 {
-        if !next_case(input, output, errors, bytes, room)? {
+        if !bench.next_case()? {
             break;
         }
     }
     Ok(())
-}
-
-fn main(rt: HostRuntime) -> io::Result<()> {
-    let mut bytes = console::input_room();
-    let mut room = console::explanation_room();
-    run(
-        &mut rt.stdin(),
-        &mut rt.stdout(),
-        &mut rt.stderr(),
-        &mut bytes,
-        &mut room,
-    )
 }
