@@ -1,7 +1,7 @@
 -- Worked examples, by computation: the fetch of examples/texture.pack as text, edited, and settings that are wrong.
 use mathlib.Core.Path.{◌≡◌, refl}
 use mathlib.Core.List.{List}
-use mathlib.Core.Option.{Option, none, some}
+use Rattle.std.specs.Prelude.{Option, Some, None}
 use Prim.Native.Nat.{ℕ}
 use Rattle.ascii.specs.Ascii.{ascii}
 use Rattle.ascii.specs.Decimal.{decimal, decimal_within, all_digits, digits_value}
@@ -14,7 +14,8 @@ use Rattle.opcodes.specs.Numbers.{texture_fetches, fetch_taken}
 use Rattle.fetch_codec.specs.declared.Fetch.{Fetch}
 use Rattle.fetch_codec.specs.Fetch.{fetch_of, word2_of}
 use Rattle.codec_for_c.specs.FetchValues.{fetch_in}
-use Rattle.fetch_text.specs.declared.Fault.{Fault}
+use Rattle.fetch_text.specs.declared.EditError.{EditError}
+use Rattle.fetch_text.specs.declared.EditError.TheVariants.{Wrong}
 use Rattle.fetch_text.specs.declared.Fault.TheVariants.{NoField, NoNumber, TooWide, NotTaken}
 use Rattle.fetch_text.specs.Text.{form_fields, keys_of, widths_of, text_of}
 use Rattle.fetch_text.specs.Edit.{lines_in, fault_of, first_fault, edited}
@@ -34,25 +35,25 @@ moved = refl
 
 -- ---- what is wrong first
 
-abbrev said : List ℕ → Option (ℕ × Fault)
+abbrev said : List ℕ → Option EditError
 said text = first_fault sample 0 (lines_in text)
 
-nothing : said (ascii "OFFSET_X=30\nOFFSET_Y=31\n") ≡ none
+nothing : said (ascii "OFFSET_X=30\nOFFSET_Y=31\n") ≡ None
 unfolding lines_in first_fault fault_of widths_of setting_from begins_with number_in number_of is_decimal all_digits digits_value keys_of form_fields tex.word0_fields tex.word1_fields tex.word2_fields
 nothing = refl
 
-too_wide : said (ascii "OFFSET_X=30\nOFFSET_Y=32") ≡ some (12, TooWide)
+too_wide : said (ascii "OFFSET_X=30\nOFFSET_Y=32") ≡ Some (Wrong 12 TooWide)
 unfolding lines_in first_fault fault_of widths_of setting_from begins_with number_in number_of is_decimal all_digits digits_value keys_of form_fields tex.word0_fields tex.word1_fields tex.word2_fields
 too_wide = refl
 
-no_field : said (ascii "SEMANTIC_ID=1") ≡ some (0, NoField)
+no_field : said (ascii "SEMANTIC_ID=1") ≡ Some (Wrong 0 NoField)
 unfolding lines_in first_fault fault_of widths_of setting_from begins_with number_in number_of is_decimal all_digits digits_value keys_of form_fields tex.word0_fields tex.word1_fields tex.word2_fields
 no_field = refl
 
-no_number : said (ascii "OFFSET_X=-1") ≡ some (0, NoNumber)
+no_number : said (ascii "OFFSET_X=-1") ≡ Some (Wrong 0 NoNumber)
 unfolding lines_in first_fault fault_of widths_of setting_from begins_with number_in number_of is_decimal all_digits digits_value keys_of form_fields tex.word0_fields tex.word1_fields tex.word2_fields
 no_number = refl
 
-another_number : said (ascii "LOD_BIAS=1\nTEX_INST=9") ≡ some (11, NotTaken)
+another_number : said (ascii "LOD_BIAS=1\nTEX_INST=9") ≡ Some (Wrong 11 NotTaken)
 unfolding fetch_taken texture_fetches lines_in first_fault fault_of widths_of setting_from begins_with number_in number_of is_decimal all_digits digits_value keys_of form_fields tex.word0_fields tex.word1_fields tex.word2_fields
 another_number = refl

@@ -3,7 +3,7 @@
 use mathlib.Core.Path.{◌≡◌, refl, sym, ap, ◌∙◌}
 use mathlib.Core.Bool.{Bool, true, false, ◌&&◌, and-true}
 use mathlib.Core.List.{List, [], ◌∷◌, ◌++◌, map}
-use mathlib.Core.Option.{none, some}
+use Rattle.std.specs.Prelude.{Some, None}
 use Prim.Native.String.{String}
 use Prim.Native.Nat.{ℕ, zero, suc, ◌-◌, ◌^◌, ◌≤◌, ◌<◌}
 use native.Mathlib.Omega.{arith}
@@ -24,8 +24,7 @@ use Rattle.fetch_codec.specs.Fetch.{form_kind, fields_fit, takes_number, form_ta
 use Rattle.codec_for_c.specs.Values.{form_of}
 use Rattle.codec_for_c.specs.FetchValues.{fetch_values, fetch_in}
 use Rattle.codec_for_c.proofs.OfValues.{values_first}
-use Rattle.settings.specs.declared.Setting.{Setting}
-use Rattle.settings.specs.declared.Setting.TheVariants.{NoName, NoNumber, Is}
+use Rattle.settings.specs.Setting.{Setting, NoName, NoNumber, Is}
 use Rattle.fetch_text.specs.declared.Fault.TheVariants.{TooWide, NotTaken}
 use Rattle.fetch_text.specs.Text.{form_fields, keys_of, widths_of, values_of}
 use Rattle.fetch_text.specs.Edit.{fault_of}
@@ -251,14 +250,14 @@ module _ (f : Fetch) (i n : ℕ) (h : i < length (values_of f)) where
     can-with = ap (λ (t : Bool). t && form_taken with_value) (fits_with (both (fields_fit f) (form_taken f) can).0)
 
     -- nothing is wrong with the setting where the fetch can then be encoded
-    pub nothing-wrong : encodable with_value ≡ true → fault_of f (Is i n) ≡ none
+    pub nothing-wrong : encodable with_value ≡ true → fault_of f (Is i n) ≡ None
     unfolding fault_of
     nothing-wrong e =
         let k = both (ltb n (2 ^ get_or (widths_of f) i 0)) (form_taken with_value) (sym can-with ∙ e) in
         rw k.0 (by_test_lem (eqb i 0) (λ t. rw (t, sym (number_is (eqb-true i 0 t)) ∙ k.1)) (λ t. rw t))
 
     -- the number is not of the form
-    pub number-wrong : encodable with_value ≡ false → i ≡ 0 → ltb n (2 ^ width_of (position FETCH_INST)) ≡ true → fault_of f (Is i n) ≡ some NotTaken
+    pub number-wrong : encodable with_value ≡ false → i ≡ 0 → ltb n (2 ^ width_of (position FETCH_INST)) ≡ true → fault_of f (Is i n) ≡ Some NotTaken
     unfolding fault_of
     number-wrong e z t =
         let narrow : ltb n (2 ^ get_or (widths_of f) i 0) ≡ true = rw (z, first_width f) t in
@@ -266,11 +265,11 @@ module _ (f : Fetch) (i n : ℕ) (h : i < length (values_of f)) where
         rw (narrow, eq-eqb i 0 z, other)
 
     -- it exceeds the width
-    pub first-too-wide : i ≡ 0 → ltb n (2 ^ width_of (position FETCH_INST)) ≡ false → fault_of f (Is i n) ≡ some TooWide
+    pub first-too-wide : i ≡ 0 → ltb n (2 ^ width_of (position FETCH_INST)) ≡ false → fault_of f (Is i n) ≡ Some TooWide
     unfolding fault_of
     first-too-wide z t = rw (z, first_width f, t)
 
-    pub other-too-wide : encodable with_value ≡ false → (i ≡ 0 → ⊥) → fault_of f (Is i n) ≡ some TooWide
+    pub other-too-wide : encodable with_value ≡ false → (i ≡ 0 → ⊥) → fault_of f (Is i n) ≡ Some TooWide
     unfolding fault_of
     other-too-wide e z =
         let number : form_taken with_value ≡ true = number_left {k = i - 1} (omega (arith, z)) ∙ (both (fields_fit f) (form_taken f) can).1 in

@@ -1,41 +1,42 @@
 -- The lines of a text one by one, as a loop finds them; and the text of a fetch has a line for each field. Assumes nothing.
-use mathlib.Core.Path.{◌≡◌, refl, ap, ◌∙◌}
-use mathlib.Core.Bool.{Bool, true, false, not, ◌&&◌}
-use mathlib.Core.List.{List, [], ◌∷◌, ◌++◌, append_assoc}
-use Prim.Native.Nat.{ℕ, suc, ◌<◌}
-use native.Mathlib.Omega.{arith}
-use lib.Dec.{eqb}
-use lib.ListN.{length, take, drop}
+use Rattle.std.proofs.Common.{◌≡◌, refl, ap, sym, ◌∙◌, ℕ, ◌+◌, ◌<◌, Bool, true, false, not, ◌&&◌, List, [], ◌∷◌, ◌++◌, append_assoc, length, take, drop, arith}
+use Rattle.std.proofs.lemmas.Grind.{common_steps}
+use Rattle.std.specs.List as parts
+use Rattle.std.specs.List.{after_first, position_or_len}
 use borrow.Author.Tests.{not-true}
+use lib.Dec.{eqb}
 use Rattle.laws.proofs.OfTests.{both, by_test_lem}
 use Rattle.ascii.specs.Ascii.{ascii, line_feed}
 use Rattle.ascii.specs.Decimal.{decimal}
 use Rattle.ascii.specs.Code.{feedless}
 use Rattle.ascii.proofs.OfFeeds.{feedless_joined, feedless_decimal}
-use Rattle.card.specs.Text.{line_end}
 use Rattle.report.specs.Report.{before_first}
 use Rattle.report.specs.Settings.{setting_lines, settings_text}
-use Rattle.fetch_text.specs.Edit.{lines_in}
+use Rattle.fetch_text.specs.Edit.{ends_line, lines_in}
 
 -- ---- the first line, and those behind it
 
-first_ends : (b : ℕ) (t : List ℕ) → eqb b line_feed ≡ true → lines_in (b ∷ t) ≡ take (line_end (b ∷ t)) (b ∷ t) ∷ lines_in (drop (suc (line_end (b ∷ t))) (b ∷ t))
-unfolding lines_in line_end
-first_ends b t e = rw e
+one_more : (b n : ℕ) (t : List ℕ) → (take (1 + n) (b ∷ t) ≡ b ∷ take n t) × (drop (1 + n + 1) (b ∷ t) ≡ drop (n + 1) t)
+one_more b n t = grind (arith, common_steps)
 
-first_goes_on : (b : ℕ) (t : List ℕ) → eqb b line_feed ≡ false → lines_in t ≡ take (line_end t) t ∷ lines_in (drop (suc (line_end t)) t)
-    → lines_in (b ∷ t) ≡ take (line_end (b ∷ t)) (b ∷ t) ∷ lines_in (drop (suc (line_end (b ∷ t))) (b ∷ t))
-unfolding lines_in line_end
-first_goes_on b t e h = rw e (ap (before_first b) h)
+first_goes_on :
+    (b : ℕ) (t : List ℕ) → ends_line b ≡ false → lines_in t ≡ parts.before_first ends_line t ∷ lines_in (after_first ends_line t)
+    → lines_in (b ∷ t) ≡ parts.before_first ends_line (b ∷ t) ∷ lines_in (after_first ends_line (b ∷ t))
+unfolding lines_in
+first_goes_on b t e h =
+    let step = one_more b (position_or_len ends_line t) t in
+    rw e (ap (before_first b) h ∙ sym (λ i. step.0 i ∷ lines_in (step.1 i)))
 
-first_alone : (b : ℕ) → eqb b line_feed ≡ false → lines_in (b ∷ []) ≡ take (line_end (b ∷ [])) (b ∷ []) ∷ lines_in (drop (suc (line_end (b ∷ []))) (b ∷ []))
-unfolding lines_in line_end
-first_alone b e = rw e
-
-pub first_line_lem : (t : List ℕ) → 0 < length t → lines_in t ≡ take (line_end t) t ∷ lines_in (drop (suc (line_end t)) t)
+pub first_line_lem : (t : List ℕ) → 0 < length t → lines_in t ≡ parts.before_first ends_line t ∷ lines_in (after_first ends_line t)
+unfolding lines_in
 first_line_lem [] h = absurd (omega arith)
-first_line_lem (b ∷ []) h = by_test_lem (eqb b line_feed) (first_ends b []) (first_alone b)
-first_line_lem (b ∷ c ∷ t) h = by_test_lem (eqb b line_feed) (first_ends b (c ∷ t)) (λ e. first_goes_on b (c ∷ t) e (first_line_lem (c ∷ t) (omega arith)))
+first_line_lem (b ∷ []) h = by_test_lem (ends_line b) (λ e. rw e) (λ e. rw e)
+first_line_lem (b ∷ c ∷ t) h = by_test_lem (ends_line b) (λ e. rw e) (λ e. first_goes_on b (c ∷ t) e (first_line_lem (c ∷ t) (omega arith)))
+
+-- where something stands behind it, a line feed ends it
+pub first_ends :
+    (t : List ℕ) → 0 < length (after_first ends_line t) → length t ≡ length (parts.before_first ends_line t) + 1 + length (after_first ends_line t)
+first_ends t h = grind (arith, common_steps)
 
 -- ---- lines that were written
 

@@ -2,7 +2,7 @@
 use mathlib.Core.Path.{◌≡◌, refl, sym, ap, ◌∙◌, subst}
 use mathlib.Core.Bool.{Bool, true, ◌&&◌}
 use mathlib.Core.List.{List, [], ◌∷◌, ◌++◌}
-use mathlib.Core.Option.{Option, none, some}
+use Rattle.std.specs.Prelude.{Option, Some, None, Result, Ok, Err, IsOk, OnOk, ⊤}
 use Prim.Native.Nat.{ℕ, zero, suc, ◌+◌, ◌*◌, ◌^◌, ◌≤◌, ◌<◌}
 use native.Mathlib.Omega.{arith}
 use native.Mathlib.Nat.{pow-le-pow_right}
@@ -23,30 +23,26 @@ use Rattle.ascii.specs.Ascii.{ascii}
 use Rattle.ascii.specs.Decimal.{decimal}
 use Rattle.ascii.proofs.OfDecimal.{fewer_digits}
 use Rattle.report.specs.Settings.{setting_lines, settings_text}
-use Rattle.settings.specs.declared.Setting.TheVariants.{Is}
-use Rattle.settings.specs.Setting.{setting_of, changed_by}
+use Rattle.settings.specs.Setting.{Is, setting_of, changed_by}
 use Rattle.settings.specs.ReadBack.{good_keys}
 use Rattle.settings.proofs.OfChanges.{Of32Bits, line_count, line_read_back, all_read_back}
 use Rattle.fetch_codec.specs.declared.Fetch.{Fetch}
 use Rattle.fetch_codec.specs.declared.Fetch.TheVariants.{Tex, VtxGpr, VtxSem}
-use Rattle.microcode.specs.declared.Encoded.TheVariants.{Done}
+use Rattle.microcode.specs.Answer.{Done}
+use Rattle.microcode.specs.declared.DecodeError.{DecodeError}
+use Rattle.microcode.specs.declared.DecodeError.TheVariants.{Outside, NotTaken}
+use Rattle.microcode.specs.Buffer.{room, write_answer}
 use Rattle.fetch_codec.specs.declared.Clause.{Clause}
-use Rattle.fetch_codec.specs.declared.FetchDecoded.{FetchDecoded}
-use Rattle.fetch_codec.specs.declared.FetchDecoded.TheVariants.{Outside, NotTaken, Taken}
 use Rattle.fetch_codec.specs.Fetch.{kind_of, form_kind, fetch_of, vertex_of, fields_fit, takes_number, form_taken, encodable}
-use Rattle.fetch_codec.specs.Buffer.{room, four_of, decode_of, encode_answer, encode_words, write_answer}
+use Rattle.fetch_codec.specs.Buffer.{Decoded, four_of, decode_of, encode_answer, encode_words}
 use Rattle.fetch_codec.proofs.RoundTrip.{record_again_at}
 use Rattle.codec_for_c.specs.FetchValues.{fetch_in, fetch_after, fetch_words}
 use Rattle.codec_for_c.proofs.OfValues.{within_at}
-use Rattle.fetch_text.specs.declared.Fault.{Fault}
-use Rattle.fetch_text.specs.declared.Edit.{Edit}
-use Rattle.fetch_text.specs.declared.Edit.TheVariants as edit
-use Rattle.fetch_text.specs.declared.rows.RowRead.TheVariants as read
-use Rattle.fetch_text.specs.declared.rows.RowEdit.{RowEdit}
-use Rattle.fetch_text.specs.declared.rows.RowEdit.TheVariants as all
+use Rattle.fetch_text.specs.declared.EditError.{EditError}
+use Rattle.fetch_text.specs.declared.EditError.TheVariants.{NoFetch}
 use Rattle.fetch_text.specs.Text.{form_fields, keys_of, widths_of, values_of, text_of}
-use Rattle.fetch_text.specs.Edit.{lines_in, fault_of, or_later, first_fault, edited, edit_of, edited_words, words_with, answer_to, Promised}
-use Rattle.fetch_text.specs.Code.{row_read, row_edit, AllPut}
+use Rattle.fetch_text.specs.Edit.{lines_in, fault_of, or_later, first_fault, edited, edit_of, edited_words, words_with, unless, Promised}
+use Rattle.fetch_text.specs.Code.{AllPut}
 use Rattle.fetch_text.proofs.OfForms.{form, keys_same, kind_same, fault_same, length_same, keys_count, widths_count, values_row, fetch_itself, fits_all}
 use Rattle.fetch_text.proofs.OfLines.{feedless_keys, lines_written}
 use Rattle.fetch_text.proofs.OfRows.{taken_row}
@@ -103,7 +99,7 @@ module _ (g : Fetch) (can : encodable g ≡ true) where
       omega (arith, value_fits k h, more)
 
   -- nothing is wrong with a value of its own
-  own_right : (k : ℕ) → k < length (values_of g) → fault_of g (Is k (get_or (values_of g) k 0)) ≡ none
+  own_right : (k : ℕ) → k < length (values_of g) → fault_of g (Is k (get_or (values_of g) k 0)) ≡ None
   unfolding fault_of
   own_right zero h = rw (lt-ltb _ _ (value_fits zero h), number_first g, (both (fields_fit g) (form_taken g) can).1)
   own_right (suc k) h = rw (lt-ltb _ _ (value_fits (suc k) h), ne_eqb (suc k) 0 (λ e. omega arith))
@@ -148,19 +144,19 @@ text_short f can =
 -- ---- read back
 
 -- no line is wrong, so none is the first
-none_wrong : (f : Fetch) (at : ℕ) (lines : List (List ℕ)) → ((k : ℕ) → k < length lines → fault_of f (setting_of (keys_of f) (get_or lines k [])) ≡ none)
-    → first_fault f at lines ≡ none
+none_wrong : (f : Fetch) (at : ℕ) (lines : List (List ℕ)) → ((k : ℕ) → k < length lines → fault_of f (setting_of (keys_of f) (get_or lines k [])) ≡ None)
+    → first_fault f at lines ≡ None
 unfolding first_fault
 none_wrong f at [] h = refl
 none_wrong f at (line ∷ lines) h =
-    ap (λ (o : Option Fault). or_later at o (first_fault f (at + length line + 1) lines)) (h 0 (omega arith))
+    ap (λ (o : Option _). or_later at o (first_fault f (at + length line + 1) lines)) (h 0 (omega arith))
     ∙ none_wrong f (at + length line + 1) lines (λ k l. h (suc k) (omega arith))
 
 module _ (f g : Fetch) (same : form f ≡ form g) (can : encodable g ≡ true) where
   values_length : length (values_of f) ≡ length (values_of g)
   values_length = omega (arith, length_same f g same, ap length (values_row f), ap length (values_row g))
 
-  right_lines : first_fault f 0 (setting_lines (keys_of g) (values_of g)) ≡ none
+  right_lines : first_fault f 0 (setting_lines (keys_of g) (values_of g)) ≡ None
   right_lines =
       none_wrong f 0 (setting_lines (keys_of g) (values_of g))
       (λ k h.
@@ -170,7 +166,7 @@ module _ (f g : Fetch) (same : form f ≡ form g) (can : encodable g ≡ true) w
       ∙ fault_same (Is k (get_or (values_of g) k 0)) f g same
       ∙ own_right g can k inside)
 
-  pub text_right : first_fault f 0 (lines_in (text_of g)) ≡ none
+  pub text_right : first_fault f 0 (lines_in (text_of g)) ≡ None
   text_right = ap (first_fault f 0) (text_lines g) ∙ right_lines
 
   pub text_back : edited f (lines_in (text_of g)) ≡ g
@@ -189,10 +185,10 @@ unfolding vertex_of
 kind_of_lem Texture w0 w1 w2 = refl
 kind_of_lem Vertex w0 w1 w2 = by_test_lem (is_semantic Vertex (FETCH_INST of w0)) (λ t. rw t) (λ t. rw t)
 
-module _ (clause : Clause) (l : List ℕ) (start : Words) (f : Fetch) (e : decode_of clause l start ≡ Taken f) where
-  taken_room : room l start.0 ≡ true
+module _ (clause : Clause) (l : List ℕ) (start : Words) (f : Fetch) (e : decode_of clause l start ≡ Ok f) where
+  taken_room : room 4 l start.0 ≡ true
   unfolding decode_of
-  taken_room = by_test_lem (room l start.0) (λ t. t) (λ t. let z : Outside ≡ Taken f = rw t at e in impossible cc)
+  taken_room = by_test_lem (room 4 l start.0) (λ t. t) (λ t. let z : Err Outside ≡ Ok f = rw t at e in impossible cc)
 
   taken_kind : kind_of clause ≡ form_kind f
   unfolding decode_of four_of
@@ -202,122 +198,73 @@ module _ (clause : Clause) (l : List ℕ) (start : Words) (f : Fetch) (e : decod
       let w2 = get_or l (start.0 + 2) 0 in
       let w3 = get_or l (start.0 + 3) 0 in
       by_test_lem (bad_fetch (kind_of clause) (FETCH_INST of w0) w3)
-      (λ t. let z : NotTaken ≡ Taken f = rw (taken_room, t) at e in impossible cc)
+      (λ t. let z : Err NotTaken ≡ Ok f = rw (taken_room, t) at e in impossible cc)
       (λ t.
-      let z : Taken (fetch_of (kind_of clause) w0 w1 w2) ≡ Taken f = rw (taken_room, t) at e in
+      let z : Ok (fetch_of (kind_of clause) w0 w1 w2) ≡ Ok f = rw (taken_room, t) at e in
       let is : fetch_of (kind_of clause) w0 w1 w2 ≡ f = cc in
       sym (kind_of_lem (kind_of clause) w0 w1 w2) ∙ ap form_kind is)
 
--- what is promised of an answer and the words afterwards
-abbrev Kept : Clause → List ℕ → Words → List ℕ → FetchDecoded → Edit → List ℕ → Type 0
-Kept clause l start text d answer after =
-    (answer ≡ edit_of d text) × ((after ≡ edited_words d text l start) × Promised clause l after text start answer)
+-- of two fetches that stand at one place
+same_fetch : {d : Decoded} {f g : Fetch} → d ≡ Ok f → d ≡ Ok g → f ≡ g
+same_fetch p q = cc
 
 module _ (clause : Clause) (l : List ℕ) (start : Words) (text : List ℕ) where
-  -- where there is no fetch nothing more is promised
-  no_fetch : (answer : Edit) (after : List ℕ) → ((f : Fetch) → decode_of clause l start ≡ Taken f → ⊥) → Promised clause l after text start answer
-  no_fetch answer after h = record { decodes = λ f e. absurd (h f e); read_back = λ f g e. absurd (h f e) }
+  -- what `edit_fetch` answers and what becomes of the words
+  pub record Kept (answer : Result ⊤ EditError) (after : List ℕ) : Type 0 where
+    pub value : answer ≡ edit_of (decode_of clause l start) text
+    pub words_after : after ≡ edited_words (decode_of clause l start) text l start
+    pub promised : Promised clause l after text start answer
 
-  pub kept_outside : read.Outside ≡ row_read (decode_of clause l start) → Kept clause l start text (decode_of clause l start) edit.Outside l
-  kept_outside e = by (decode_of clause l start) refl e
-    where
-      by : (d : FetchDecoded) → decode_of clause l start ≡ d → read.Outside ≡ row_read d → Kept clause l start text d edit.Outside l
-      by Outside is e = (refl, (refl, no_fetch edit.Outside l (λ f h. no (sym is ∙ h))))
-        where
-          no : {f : Fetch} → Outside ≡ Taken f → ⊥
-          no z = impossible cc
-      by NotTaken is e = impossible cc
-      by (Taken g) is e = impossible cc
-
-  pub kept_not_taken : read.NotTaken ≡ row_read (decode_of clause l start) → Kept clause l start text (decode_of clause l start) edit.NotTaken l
-  kept_not_taken e = by (decode_of clause l start) refl e
-    where
-      by : (d : FetchDecoded) → decode_of clause l start ≡ d → read.NotTaken ≡ row_read d → Kept clause l start text d edit.NotTaken l
-      by Outside is e = impossible cc
-      by NotTaken is e = (refl, (refl, no_fetch edit.NotTaken l (λ f h. no (sym is ∙ h))))
-        where
-          no : {f : Fetch} → NotTaken ≡ Taken f → ⊥
-          no z = impossible cc
-      by (Taken g) is e = impossible cc
-
-  -- an answer tells whether something is wrong
-  all_right : (o : Option (ℕ × Fault)) → all.Done ≡ row_edit o → o ≡ none
-  all_right none e = refl
-  all_right (some x) e = impossible cc
-
-  not_all_right : (o : Option (ℕ × Fault)) {at : ℕ} {why : Fault} → all.Wrong at why ≡ row_edit o → o ≡ some (at, why)
-  not_all_right none e = impossible cc
-  not_all_right (some x) {at} {why} e = let p : x.0 ≡ at = cc in let q : x.1 ≡ why = cc in (λ i. some (p i, q i))
-
-  -- a setting was wrong: the text is no fetch's
-  wrong_text : (g : Fetch) {at : ℕ} {why : Fault} → decode_of clause l start ≡ Taken g → first_fault g 0 (lines_in text) ≡ some (at, why)
-      → Promised clause l l text start (edit.Wrong at why)
-  wrong_text g {at} {why} is wrong =
+  -- there is no fetch
+  pub kept_none : {e : DecodeError} → decode_of clause l start ≡ Err e → Kept (Err (NoFetch e)) l
+  kept_none {e} is =
       record {
-        decodes = λ f e d. impossible cc;
-        read_back =
-            λ f h e same can t.
-            let z : Taken f ≡ Taken g = sym e ∙ is in
-            let f-is : f ≡ g = cc in
-            let right = ap (λ (x : Fetch). first_fault x 0 (lines_in text)) (sym f-is) ∙ ap (λ (x : List ℕ). first_fault f 0 (lines_in x)) t ∙ text_right f h same can in
-            let never = sym right ∙ wrong in
-            impossible cc;
+        value = sym (ap (λ (d : Decoded). edit_of d text) is);
+        words_after = sym (ap (λ (d : Decoded). edited_words d text l start) is);
+        promised = record { decodes = λ f h. absurd (no (sym is ∙ h)); read_back = λ f g h. absurd (no (sym is ∙ h)) };
       }
+    where
+      no : {f : Fetch} → Err e ≡ Ok f → ⊥
+      no z = impossible cc
 
-  -- none was: the edited fetch stands there
-  edited_there : (g : Fetch) → decode_of clause l start ≡ Taken g → first_fault g 0 (lines_in text) ≡ none → form (edited g (lines_in text)) ≡ form g
-      → encodable (edited g (lines_in text)) ≡ true → Promised clause l (encode_words (edited g (lines_in text)) l start) text start edit.Done
-  unfolding write_answer
-  edited_there g is right same can =
-      let h = edited g (lines_in text) in
-      let done : encode_answer h l start ≡ Done = rw (can, taken_room clause l start g is) in
-      let there = record_again_at h l start done clause (taken_kind clause l start g is ∙ sym (kind_same h g same)) in
-      record {
-        decodes = λ f e d.
-            let z : Taken f ≡ Taken g = sym e ∙ is in
-            let f-is : f ≡ g = cc in
-            there ∙ ap (λ (x : Fetch). Taken (edited x (lines_in text))) (sym f-is);
-        read_back = λ f x e form-same x-can t.
-            let z : Taken f ≡ Taken g = sym e ∙ is in
-            let f-is : f ≡ g = cc in
-            let back : h ≡ x = ap (λ (y : Fetch). edited y (lines_in text)) (sym f-is) ∙ ap (λ (y : List ℕ). edited f (lines_in y)) t ∙ text_back f x form-same x-can in
-            (refl, there ∙ ap Taken back);
-      }
+  module _ (g : Fetch) (is : decode_of clause l start ≡ Ok g) where
+    -- a setting is wrong: the text is no fetch's
+    pub kept_wrong : {e : EditError} → first_fault g 0 (lines_in text) ≡ Some e → Kept (Err e) l
+    kept_wrong {e} wrong =
+        record {
+          value = sym (ap (λ (d : Decoded). edit_of d text) is ∙ ap unless wrong);
+          words_after =
+              sym (ap (λ (d : Decoded). edited_words d text l start) is ∙ ap (λ (o : Option EditError). words_with o (edited g (lines_in text)) l start) wrong);
+          promised = record {
+            decodes = λ f h d. absurd d;
+            read_back = λ f h k same can t.
+                let f_is = same_fetch k is in
+                let right = ap (λ (x : Fetch). first_fault x 0 (lines_in text)) (sym f_is) ∙ ap (λ (x : List ℕ). first_fault f 0 (lines_in x)) t ∙ text_right f h same can in
+                let never = sym right ∙ wrong in
+                impossible cc;
+          };
+        }
 
-  module _ (vs row : List ℕ) (long : length vs ≡ 32) (taken : read.Taken ≡ row_read (decode_of clause l start)) (row_is : row ≡ fetch_after (decode_of clause l start) vs) where
-    pub kept-wrong : {after : List ℕ} {r : RowEdit} {at : ℕ} {why : Fault} → AllPut row after text r → r ≡ all.Wrong at why → Kept clause l start text (decode_of clause l start) (edit.Wrong at why) l
-    kept-wrong {after} {r} {at} {why} p q = by (decode_of clause l start) refl taken row_is
-      where
-        by : (d : FetchDecoded) → decode_of clause l start ≡ d → read.Taken ≡ row_read d → row ≡ fetch_after d vs → Kept clause l start text d (edit.Wrong at why) l
-        by Outside is t e = impossible cc
-        by NotTaken is t e = impossible cc
-        by (Taken g) is t e =
-            let told = sym q ∙ p.told ∙ ap (λ (f : Fetch). row_edit (first_fault f 0 (lines_in text))) (taken_row vs g long e) in
-            let wrong = not_all_right (first_fault g 0 (lines_in text)) told in (
-              sym (ap answer_to wrong),
-              (sym (ap (λ (o : Option (ℕ × Fault)). words_with o (edited g (lines_in text)) l start) wrong), wrong_text g is wrong),
-            )
-
-    pub kept-done : {after words-after : List ℕ} {r : RowEdit} → AllPut row after text r → r ≡ all.Done → words-after ≡ fetch_words after l start.0 → Kept clause l start text (decode_of clause l start) edit.Done words-after
-    unfolding fetch_words
-    kept-done {after} {words-after} p q w = by (decode_of clause l start) refl taken row_is
-      where
-        by : (d : FetchDecoded) → decode_of clause l start ≡ d → read.Taken ≡ row_read d → row ≡ fetch_after d vs → Kept clause l start text d edit.Done words-after
-        by Outside is t e = impossible cc
-        by NotTaken is t e = impossible cc
-        by (Taken g) is t e =
-            let h = edited g (lines_in text) in
-            let row-holds-it : fetch_in row ≡ g = taken_row vs g long e in
-            let told = sym q ∙ p.told ∙ ap (λ (f : Fetch). row_edit (first_fault f 0 (lines_in text))) row-holds-it in
-            let right = all_right (first_fault g 0 (lines_in text)) told in
-            let holds = p.holds q in
-            let fetch-is : fetch_in after ≡ h = p.fetch q ∙ ap (λ (f : Fetch). edited f (lines_in text)) row-holds-it in
-            let words_are : words-after ≡ encode_words h l start = w ∙ rw (holds.is_a_fetch, fetch-is) in
-            let same : form h ≡ form g = ap form (sym fetch-is) ∙ p.form q ∙ ap form row-holds-it in
-            let can : encodable h ≡ true = ap encodable (sym fetch-is) ∙ holds.can in (
-              sym (ap answer_to right),
-              (
-                words_are ∙ sym (ap (λ (o : Option (ℕ × Fault)). words_with o h l start) right),
-                subst (λ (x : List ℕ). Promised clause l x text start edit.Done) (sym words_are) (edited_there g is right same can),
-              ),
-            )
+    -- none is: the edited fetch stands there
+    pub kept_done :
+        {after : List ℕ} {t : ⊤} → first_fault g 0 (lines_in text) ≡ None → form (edited g (lines_in text)) ≡ form g → encodable (edited g (lines_in text)) ≡ true
+        → after ≡ encode_words (edited g (lines_in text)) l start → Kept (Ok t) after
+    unfolding write_answer
+    kept_done {after} right same can words =
+        let h = edited g (lines_in text) in
+        let done : encode_answer h l start ≡ Done = rw (can, taken_room clause l start g is) in
+        let there : decode_of clause after start ≡ Ok h =
+            ap (λ (x : List ℕ). decode_of clause x start) words ∙ record_again_at h l start done clause (taken_kind clause l start g is ∙ sym (kind_same h g same)) in
+        record {
+          value = sym (ap (λ (d : Decoded). edit_of d text) is ∙ ap unless right);
+          words_after =
+              words
+              ∙ sym (ap (λ (d : Decoded). edited_words d text l start) is ∙ ap (λ (o : Option EditError). words_with o h l start) right);
+          promised = record {
+            decodes = λ f k d. there ∙ ap (λ (x : Fetch). Ok (edited x (lines_in text))) (sym (same_fetch k is));
+            read_back = λ f x k form_same x_can t.
+                let f_is = same_fetch k is in
+                let back : h ≡ x = ap (λ (y : Fetch). edited y (lines_in text)) (sym f_is) ∙ ap (λ (y : List ℕ). edited f (lines_in y)) t ∙ text_back f x form_same x_can in
+                (record {}, there ∙ ap (λ (y : Fetch). Ok y) back);
+          };
+        }

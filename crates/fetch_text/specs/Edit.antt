@@ -1,7 +1,7 @@
 -- A fetch edited by settings NAME=number, a line each: document 02, request 2, for people who edit by hand. Where one of the settings is wrong
 -- nothing is changed, and the first that is wrong is named; else they are put into the fetch one after the other, so of two for one field the
 -- last counts.
-use Rattle.std.specs.Prelude.{ℕ, ◌+◌, ◌^◌, ◌≡◌, true, cond, not, ◌&&◌, List, [], ◌∷◌, eqb, ltb, length, get_or, Option, Some, None, Result, Ok, Err, IsOk, ⊤}
+use Rattle.std.specs.Prelude.{ℕ, ◌+◌, ◌^◌, ◌≡◌, Bool, true, cond, not, ◌&&◌, List, [], ◌∷◌, eqb, ltb, length, get_or, Option, Some, None, Result, Ok, Err, IsOk, ⊤}
 use Rattle.units.specs.declared.Words.{Words}
 use Rattle.ascii.specs.Ascii.{line_feed}
 use Rattle.report.specs.Report.{before_first}
@@ -18,10 +18,14 @@ use Rattle.fetch_text.specs.declared.Fault.TheVariants as fault
 use Rattle.fetch_text.specs.declared.EditError.{EditError}
 use Rattle.fetch_text.specs.declared.EditError.TheVariants.{NoFetch, Wrong}
 
+-- the byte that ends a line
+abbrev pub ends_line : ℕ → Bool
+ends_line b = eqb b line_feed
+
 -- the lines of a text, without their line feeds; bytes behind the last line feed are a line, too
 unfoldable pub lines_in : List ℕ → List (List ℕ)
 lines_in [] = []
-lines_in (b ∷ bs) = cond (eqb b line_feed) ([] ∷ lines_in bs) (before_first b (lines_in bs))
+lines_in (b ∷ bs) = cond (ends_line b) ([] ∷ lines_in bs) (before_first b (lines_in bs))
 
 -- ---- what is wrong with a setting, which goes by the fetch's form alone and not by the numbers in its fields
 

@@ -1,10 +1,11 @@
 // Rows of a fetch's values: written as text, and changed by settings.
-ghost use Rattle.std.specs.Prelude.{◌≡◌, ◌<◌, ◌==◌, length};
-ghost use Rattle.std.specs.List.{position, before_first, after_first};
+ghost use Rattle.std.specs.Prelude.{◌≡◌, ◌<◌, length, position};
+ghost use Rattle.std.specs.List.{before_first, after_first};
 ghost use Rattle.report.specs.Settings.{keys_for};
 ghost use Rattle.report.specs.Buffer.{written_of, buffer_after};
 ghost use Rattle.codec_for_c.specs.FetchValues.{fetch_in};
 ghost use Rattle.fetch_text.specs.Text.{keys_of, text_of};
+ghost use Rattle.fetch_text.specs.Edit.{ends_line};
 ghost use Rattle.fetch_text.specs.Code.{Holds, NumberPut, SettingPut, AllPut};
 
 use crate::{EditError, Fault, keys};
@@ -50,8 +51,8 @@ pub(crate) fn edit_row(row: &mut [u32; 32], text: &[u8]) -> Result<(), EditError
 
 // The first line of a text, without its line feed, and what stands behind that; all and nothing where there is none.
 pub fn split_line(text: &[u8]) -> (&[u8], &[u8])
-    ensures line { result.0.now ≡ before_first (λ b. b == 10) text.now }
-    ensures behind { result.1.now ≡ after_first (λ b. b == 10) text.now }
+    ensures line { result.0.now ≡ before_first ends_line text.now }
+    ensures behind { result.1.now ≡ after_first ends_line text.now }
 {
     match line_feed(text) {
         Some(end) => (&text[..end], &text[end + 1..]),
@@ -60,7 +61,7 @@ pub fn split_line(text: &[u8]) -> (&[u8], &[u8])
 }
 
 fn line_feed(text: &[u8]) -> Option<usize>
-    ensures { result ≡ position (λ b. b == 10) text.now }
+    ensures { result ≡ position ends_line text.now }
 {
     text.iter().position(|b| *b == b'\n')
 }
