@@ -2,7 +2,7 @@
 use mathlib.Core.Path.{◌≡◌, refl, sym, ap, ◌∙◌, subst}
 use mathlib.Core.Bool.{Bool, true, false, cond, not, ◌&&◌}
 use mathlib.Core.List.{List, [], ◌∷◌, ◌++◌}
-use Prim.Native.Nat.{ℕ, zero, suc, ◌+◌, ◌^◌, ◌≤◌, ◌<◌}
+use Prim.Native.Nat.{ℕ, ◌+◌, ◌^◌, ◌≤◌, ◌<◌}
 use native.Mathlib.Nat.{add-zero}
 use native.Mathlib.Omega.{arith}
 use lib.Dec.{eqb}
@@ -10,7 +10,7 @@ use lib.ListN.{length, get_or, take, drop}
 use borrow.Author.Tests.{leb-true, le-leb, not-true, not-false, eqb-true}
 use Rattle.laws.proofs.OfCases.{impossible}
 use Rattle.laws.proofs.OfTests.{both, neither, by_test_lem}
-use Rattle.std.specs.Prelude.{Option, Some, None, Ok, Err}
+use Rattle.std.specs.Prelude.{Option, Some, Ok, Err}
 use Rattle.units.specs.declared.Words.{Words}
 use Rattle.opcodes.specs.declared.cf.FetchKind.{FetchKind}
 use Rattle.opcodes.specs.declared.cf.FetchKind.TheVariants.{Vertex, Texture}
@@ -30,7 +30,7 @@ use Rattle.microcode.proofs.RoundTrip.{done_by}
 use Rattle.fetch_codec.specs.declared.Fetch.{Fetch}
 use Rattle.fetch_codec.specs.declared.Fetch.TheVariants.{Tex, VtxGpr, VtxSem}
 use Rattle.fetch_codec.specs.declared.Clause.{Clause}
-use Rattle.fetch_codec.specs.Fetch.{kind_of, vertex_of, fetch_of, form_kind, encodable, word0_of, word1_of, word2_of, words_of}
+use Rattle.fetch_codec.specs.Fetch.{kind_of, fetch_of, form_kind, encodable, word0_of, word1_of, word2_of, words_of}
 use Rattle.fetch_codec.specs.Buffer.{Decoded, four_of, decode_of, encode_answer, encode_words, Rewritten}
 
 -- ---- words, read and written
