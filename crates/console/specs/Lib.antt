@@ -1,4 +1,5 @@
 -- The root of what the contracts cite.
+pub mod Tools
 pub mod Files
 pub mod Output
 pub mod Rooms

@@ -2,6 +2,7 @@
 ghost use Rattle.std.specs.Prelude.{◌≡◌, ◌<◌, ◌≤◌, Some, None, IfOk, IfSome, OnErr, MatchResult, length, take};
 ghost use Rattle.std.specs.Counts.{IsPrefixLen};
 ghost use Rattle.std.specs.Io.KnownBytes.{Consumes, IsAtEnd};
+ghost use Rattle.console.specs.Tools.{tool_name};
 ghost use Rattle.console.specs.Files.{GaveSome, ReadFrom, IsSilent};
 
 use std::env::FillError;
@@ -20,6 +21,8 @@ pub enum Tool {
 }
 
 impl fmt::Display for Tool {
+    ghost output = { λ tool. Some (tool_name tool) };
+
     fn fmt<W: fmt::Write>(&self, f: &mut fmt::Formatter<W>) -> fmt::Result {
         f.write_str(match self {
             Tool::Judge => "judge",

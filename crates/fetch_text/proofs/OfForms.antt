@@ -3,7 +3,7 @@
 use mathlib.Core.Path.{◌≡◌, refl, sym, ap, ◌∙◌}
 use mathlib.Core.Bool.{Bool, true, false, ◌&&◌, and-true}
 use mathlib.Core.List.{List, [], ◌∷◌, ◌++◌, map}
-use Rattle.std.specs.Prelude.{Some, None}
+use Rattle.std.specs.Prelude.{Some, None, Err}
 use Prim.Native.String.{String}
 use Prim.Native.Nat.{ℕ, zero, suc, ◌-◌, ◌^◌, ◌≤◌, ◌<◌}
 use native.Mathlib.Omega.{arith}
@@ -24,7 +24,7 @@ use Rattle.fetch_codec.specs.Fetch.{form_kind, fields_fit, takes_number, form_ta
 use Rattle.codec_for_c.specs.Values.{form_of}
 use Rattle.codec_for_c.specs.FetchValues.{fetch_values, fetch_in}
 use Rattle.codec_for_c.proofs.OfValues.{values_first}
-use Rattle.settings.specs.Setting.{Setting, NoName, NoNumber, Is}
+use Rattle.settings.specs.Setting.{Setting, Is}
 use Rattle.fetch_text.specs.declared.Fault.TheVariants.{TooWide, NotTaken}
 use Rattle.fetch_text.specs.Text.{form_fields, keys_of, widths_of, values_of}
 use Rattle.fetch_text.specs.Edit.{fault_of}
@@ -73,8 +73,7 @@ takes_same n = by_form (λ f. takes_number f n) (λ a b c d e g. refl) (λ a b c
 
 pub fault_same : (s : Setting) (f g : Fetch) → form f ≡ form g → fault_of f s ≡ fault_of g s
 unfolding fault_of
-fault_same NoName f g e = refl
-fault_same NoNumber f g e = refl
+fault_same (Err why) f g e = refl
 fault_same (Is index n) f g e = rw (widths_same f g e, takes_same n f g e)
 
 -- keys that are those of the tables are the fetch's own, by its form

@@ -3,9 +3,11 @@
 -- last counts.
 use Rattle.std.specs.Prelude.{ℕ, ◌+◌, ◌^◌, ◌≡◌, Bool, true, cond, not, ◌&&◌, List, [], ◌∷◌, eqb, ltb, length, get_or, Option, Some, None, Result, Ok, Err, IsOk, ⊤}
 use Rattle.units.specs.declared.Words.{Words}
-use Rattle.ascii.specs.Ascii.{line_feed}
+use Rattle.ascii.specs.Ascii.{ascii, line_feed}
 use Rattle.report.specs.Report.{before_first}
-use Rattle.settings.specs.Setting.{Setting, NoName, NoNumber, Is, setting_of, changed_by}
+use Rattle.settings.specs.declared.SettingError.{SettingError}
+use Rattle.settings.specs.declared.SettingError.TheVariants as error
+use Rattle.settings.specs.Setting.{Setting, Is, setting_of, changed_by}
 use Rattle.fetch_codec.specs.declared.Fetch.{Fetch}
 use Rattle.fetch_codec.specs.declared.Clause.{Clause}
 use Rattle.fetch_codec.specs.Fetch.{takes_number, encodable}
@@ -29,14 +31,25 @@ lines_in (b ∷ bs) = cond (ends_line b) ([] ∷ lines_in bs) (before_first b (l
 
 -- ---- what is wrong with a setting, which goes by the fetch's form alone and not by the numbers in its fields
 
--- no such field; no number; one that exceeds the field's width; or, for the first field, a number that the form doesn't have
+-- no such field, or no number
+abbrev pub fault_read : SettingError → Fault
+fault_read error.NoName = fault.NoField
+fault_read error.NoNumber = fault.NoNumber
+
+-- either; one that exceeds the field's width; or, for the first field, a number that the form doesn't have
 unfoldable pub fault_of : Fetch → Setting → Option Fault
-fault_of f NoName = Some fault.NoField
-fault_of f NoNumber = Some fault.NoNumber
+fault_of f (Err e) = Some (fault_read e)
 fault_of f (Is index n) =
     cond (ltb n (2 ^ get_or (widths_of f) index 0))
     (cond (eqb index 0 && not (takes_number f n)) (Some fault.NotTaken) None)
     (Some fault.TooWide)
+
+-- in words
+abbrev pub fault_words : Fault → List ℕ
+fault_words fault.NoField = ascii "no such field"
+fault_words fault.NoNumber = ascii "no number of 32 bits"
+fault_words fault.TooWide = ascii "beyond the field's width"
+fault_words fault.NotTaken = ascii "not a number of this form"
 
 -- the first that is wrong of some lines, and how many bytes stand before it; the first line stands behind `at` of them
 abbrev pub or_later : ℕ → Option Fault → Option EditError → Option EditError

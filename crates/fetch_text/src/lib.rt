@@ -5,10 +5,10 @@
 mod keys;
 mod rows;
 
-ghost use Rattle.std.specs.Prelude.{◌≡◌, replicate};
+ghost use Rattle.std.specs.Prelude.{◌≡◌, Some, replicate};
 ghost use Rattle.fetch_codec.specs.Buffer.{decode_of};
 ghost use Rattle.fetch_text.specs.Text.{HoldsText, shown_of, shown_after};
-ghost use Rattle.fetch_text.specs.Edit.{edit_of, edited_words, Promised};
+ghost use Rattle.fetch_text.specs.Edit.{fault_read, fault_words, edit_of, edited_words, Promised};
 ghost use Rattle.fetch_text.specs.declared.ShowError.TheVariants as show;
 ghost use Rattle.fetch_text.specs.declared.EditError.TheVariants as edit;
 
@@ -17,6 +17,7 @@ use microcode::DecodeError;
 use report::TooSmall;
 pub use rows::split_line;
 use settings::SettingError;
+use std::fmt;
 use units::Words;
 
 // Why no text is shown of the words at a start.
@@ -38,6 +39,30 @@ pub enum Fault {
     TooWide,
     // The field is the fetch's own number, and its form doesn't take this one.
     NotTaken,
+}
+
+impl fmt::Display for Fault {
+    ghost output = { λ fault. Some (fault_words fault) };
+
+    fn fmt<W: fmt::Write>(&self, f: &mut fmt::Formatter<W>) -> fmt::Result {
+        f.write_str(match self {
+            Fault::NoField => "no such field",
+            Fault::NoNumber => "no number of 32 bits",
+            Fault::TooWide => "beyond the field's width",
+            Fault::NotTaken => "not a number of this form",
+        })
+    }
+}
+
+impl From<SettingError> for Fault {
+    ghost from_gives = { λ e r. r ≡ fault_read e };
+
+    fn from(e: SettingError) -> Fault {
+        match e {
+            SettingError::NoName => Fault::NoField,
+            SettingError::NoNumber => Fault::NoNumber,
+        }
+    }
 }
 
 // Why nothing is edited.
