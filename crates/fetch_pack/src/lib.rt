@@ -28,7 +28,7 @@ pub fn show_fetch(clause: Clause, pack: &[u8], start: Words, out: &mut [u8]) -> 
     ensures value { result ≡ pack_shown clause pack.now start out.old }
     ensures out_after { out.new ≡ pack_shown_after clause pack.now start out.old }
 {
-    test_length(pack)?;
+    test_length::<ShowError>(pack)?;
     let mut room = [0u32; 16384];
     let n = input::load(pack, &mut room);
     fetch_text::write_fetch(clause, &room[..n], start, out).map_err(PackError::Fetch)
@@ -40,7 +40,7 @@ pub fn edit_fetch(clause: Clause, pack: &mut [u8], start: Words, settings: &[u8]
     ensures pack_after { pack.new ≡ pack_after clause pack.old start settings.now }
     ensures pack_promised { PackPromised clause pack.old pack.new settings.now start result }
 {
-    test_length(pack)?;
+    test_length::<EditError>(pack)?;
     let mut room = [0u32; 16384];
     let n = input::load(pack, &mut room);
     fetch_text::edit_fetch(clause, &mut room[..n], start, settings).map_err(PackError::Fetch)?;
