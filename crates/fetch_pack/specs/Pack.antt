@@ -13,7 +13,7 @@ use Rattle.fetch_pack.specs.declared.PackError.{PackError}
 use Rattle.fetch_pack.specs.declared.PackError.TheVariants.{TooLong, NotWhole, Fetch}
 
 -- one of three: the pack is too long, or no whole quadwords, or a pack
-unfoldable pub of_pack : {A : Type 0} → List ℕ → A → A → A → A
+abbrev pub of_pack : {A : Type 0} → List ℕ → A → A → A → A
 of_pack pack too_long not_whole whole = cond (leb (length pack) (8192 * 8)) (cond (eqb (length pack % 8) 0) whole not_whole) too_long
 
 -- what is wrong with its length, if anything
