@@ -1,26 +1,23 @@
 -- Why a pack is refused: document 02, request 1. The verdict is the judge's, the first broken check of the ordered list; for 9 and 15 found and limit
 -- stand beside it.
-use Rattle.std.specs.Prelude.{ℕ, Bool, cond, ◌||◌, List, [], eqb, drop}
+use Rattle.std.specs.Prelude.{ℕ, Bool, cond, ◌||◌, Option, Some, None, Err, List, [], eqb, drop}
 use Rattle.units.specs.declared.Slots.{Slots}
 use Rattle.units.specs.Units.{low_at, high_at, slot_quadword}
 use Rattle.formats.specs.Fields.{◌of◌, FETCH_INST}
-use Rattle.checks.specs.declared.AtFault.{AtFault}
-use Rattle.checks.specs.declared.AtFault.TheVariants.{NoNumber}
+use Rattle.checks.specs.declared.NotGranted.{NotGranted}
 use Rattle.checks.specs.declared.Explanation.{Explanation}
-use Rattle.checks.specs.declared.Place.TheVariants.{Whole, Line, Quadword}
-use Rattle.checks.specs.declared.Verdict.{Verdict}
-use Rattle.checks.specs.declared.Verdict.TheVariants.{Accepted, Refused}
+use Rattle.checks.specs.declared.Place.{Place}
+use Rattle.checks.specs.declared.Place.TheVariants as place
+use Rattle.checks.specs.Verdict.{Verdict, Accepted}
 use Rattle.card.specs.declared.Card.{Card}
-use Rattle.card.specs.declared.CardRead.{CardRead}
-use Rattle.card.specs.declared.CardRead.TheVariants as read
-use Rattle.card.specs.Card.{card_of}
+use Rattle.card.specs.Card.{CardRead, Whole, card_of}
 use Rattle.grants.specs.Grants.{Name}
 use Rattle.instructions.specs.Instruction.{named}
 use Rattle.fetches.specs.Fetches as fetches
 use Rattle.faults.specs.Faults.{first_fault}
 use Rattle.section.specs.declared.Clause.{Clause}
-use Rattle.section.specs.declared.Clause.TheVariants.{NoClause, AluClause, FetchClause}
-use Rattle.section.specs.Rules.{clause_at}
+use Rattle.section.specs.declared.Clause.TheVariants.{Alu, Fetch}
+use Rattle.section.specs.Rules.{range_of, clause_at}
 use Rattle.judge.specs.Judge.{limits_in, judgement, judgement_of_bytes}
 use Rattle.input.specs.Words.{words_in}
 use Rattle.input.specs.Input.{judged_of, judged_of_files}
@@ -31,22 +28,30 @@ use Rattle.input.specs.Input.{judged_of, judged_of_files}
 abbrev pub asks_names : ℕ → Bool
 asks_names rule = eqb rule 9 || eqb rule 15
 
--- what the instruction or the fetch at a slot of a clause names
-abbrev pub named_in : List ℕ → Slots → Clause → List Name
-named_in w s NoClause = []
-named_in w s (AluClause start n push mode0 mode1) = named (low_at w (slot_quadword start s).0) (high_at w (slot_quadword start s).0)
-named_in w s (FetchClause start n kind) =
-    fetches.named kind (FETCH_INST of (low_at w (slot_quadword start s).0)) (low_at w (slot_quadword start s).0) (high_at w (slot_quadword start s).0)
+-- what an instruction of a clause names, or a fetch, by its first two words
+abbrev pub named_by : Clause → ℕ → ℕ → List Name
+named_by (Alu start n push mode0 mode1) lo hi = named lo hi
+named_by (Fetch start n kind) lo hi = fetches.named kind (FETCH_INST of lo) lo hi
+
+-- what the one at a slot of the clause that is opened names
+abbrev pub named_in : List ℕ → Slots → Option Clause → List Name
+named_in w s None = []
+named_in w s (Some c) =
+    named_by c (low_at w (slot_quadword (range_of c).start s).0) (high_at w (slot_quadword (range_of c).start s).0)
 
 -- the first that is not granted of what is named at a slot of the clause that the pair at p opens
-unfoldable pub fault_at : Card → List ℕ → ℕ → Slots → AtFault
+unfoldable pub fault_at : Card → List ℕ → ℕ → Slots → Option NotGranted
 fault_at card w p s = first_fault (limits_in card (clause_at w p)) (named_in w s (clause_at w p))
 
-abbrev pub fault_of : Card → List ℕ → Verdict → AtFault
-fault_of card w Accepted = NoNumber
-fault_of card w (Refused rule Whole slot) = NoNumber
-fault_of card w (Refused rule (Line n) slot) = NoNumber
-fault_of card w (Refused rule (Quadword q) slot) = cond (asks_names rule) (fault_at card w q.0 slot) NoNumber
+-- where a rule is broken
+abbrev pub fault_there : Card → List ℕ → ℕ → Place → Slots → Option NotGranted
+fault_there card w rule place.Whole slot = None
+fault_there card w rule (place.Line n) slot = None
+fault_there card w rule (place.Quadword q) slot = cond (asks_names rule) (fault_at card w q.0 slot) None
+
+abbrev pub fault_of : Card → List ℕ → Verdict → Option NotGranted
+fault_of card w Accepted = None
+fault_of card w (Err refusal) = fault_there card w refusal.rule refusal.place refusal.slot
 
 -- ---- the explanation
 
@@ -56,11 +61,11 @@ explained card w verdict = record { verdict = verdict; fault = fault_of card w v
 
 -- a verdict that has no numbers: 1 by no card, or 2 by a pack's bytes
 abbrev pub plain : Verdict → Explanation
-plain verdict = record { verdict = verdict; fault = NoNumber }
+plain verdict = record { verdict = verdict; fault = None }
 
 abbrev pub by_read : CardRead → List ℕ → Verdict → Explanation
-by_read (read.Whole card n) w verdict = explained card w verdict
-by_read (read.BadLine n) w verdict = plain verdict
+by_read (Whole card n) w verdict = explained card w verdict
+by_read (Err bad) w verdict = plain verdict
 
 -- of a card by value and a pack's words
 unfoldable pub explanation : Card → List ℕ → Explanation
@@ -74,8 +79,8 @@ explanation_of_bytes bytes w = by_read (card_of bytes) w (judgement_of_bytes byt
 
 -- one behind the other: what stands behind the card is the pack
 abbrev pub pack_behind : List ℕ → CardRead → List ℕ
-pack_behind input (read.Whole card taken) = drop taken input
-pack_behind input (read.BadLine n) = []
+pack_behind input (Whole card taken) = drop taken input
+pack_behind input (Err bad) = []
 
 unfoldable pub explanation_of : List ℕ → Explanation
 explanation_of input = by_read (card_of input) (words_in (pack_behind input (card_of input))) (judged_of input).verdict

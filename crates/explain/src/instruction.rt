@@ -1,120 +1,97 @@
 // The instruction that a verdict names, found again by its opener's place and its slot, in a pack of words or of bytes.
-ghost use Rattle.std.specs.Prelude.{◌≡◌, get_or, ℕ};
-ghost use Rattle.units.specs.Units.{slot_quadword};
-ghost use Rattle.units.specs.Code.{capped, quadwords_in_64};
-ghost use Rattle.section.specs.Control.{control_of};
-ghost use Rattle.section.specs.Rules.{clause_of};
+ghost use Rattle.std.specs.Prelude.{◌≡◌, ℕ, List, get_or};
+ghost use Rattle.units.specs.Code.{capped};
+ghost use Rattle.faults.specs.Faults.{first_fault};
+ghost use Rattle.judge.specs.Judge.{limits_in};
 ghost use Rattle.input.specs.Words.{words_in};
-ghost use Rattle.apart.specs.Apart.{start_of};
-ghost use Rattle.explain.specs.Code.{fault_asked, fault_by};
+ghost use Rattle.explain.specs.Explain as define;
+ghost use Rattle.explain.specs.Code.{asked_by};
 
 use card::Card;
-use checks::AtFault;
+use checks::{NotGranted, Place, Verdict};
 use judge::limits_with;
 use section::Clause;
 use units::{Quadwords, Slots, Words};
 
-// The instruction that a verdict is about, if it is about what one names.
-#[derive(Clone, Copy)]
-pub enum Asked {
-    Nothing,
-    At { opener: Quadwords, slot: Slots },
+// The words of a pack, which is lent as words or as bytes.
+pub(crate) trait Pack {
+    ghost words: { Self → List ℕ };
+
+    // A word by its number; 0 where there is none, as where a number was cut to 64 bits.
+    fn word(&self, i: Words) -> u32
+        ensures { (n : ℕ) → i.0 ≡ capped n → result ≡ get_or (words self.now) n 0 };
 }
 
-pub(crate) fn fault_in_words(card: Card, words: &[u32], asked: Asked) -> AtFault
-    ensures { result ≡ fault_asked card words.now asked }
-{
-    match asked {
-        Asked::Nothing => AtFault::NoNumber,
-        Asked::At { opener, slot } => {
-            let low = word_of(words, units::low_word(opener));
-            let clause = clause_by(low, word_of(words, units::high_word(opener)));
-            let at = quadword_in(clause, slot);
-            let first = word_of(words, units::low_word(at));
-            fault_by(card, clause, first, word_of(words, units::high_word(at)))
-        }
+pub(crate) struct InWords<'a>(pub &'a [u32]);
+
+pub(crate) struct InBytes<'a>(pub &'a [u8]);
+
+impl Pack for InWords<'_> {
+    ghost words = { λ pack. pack.0.now };
+
+    fn word(&self, i: Words) -> u32 {
+        self.0.get(i.0).copied().unwrap_or(0)
     }
 }
 
-pub(crate) fn fault_in_bytes(card: Card, pack: &[u8], asked: Asked) -> AtFault
-    ensures { result ≡ fault_asked card (words_in pack.now) asked }
-{
-    match asked {
-        Asked::Nothing => AtFault::NoNumber,
-        Asked::At { opener, slot } => {
-            let low = input::word_of(pack, units::low_word(opener));
-            let clause = clause_by(low, input::word_of(pack, units::high_word(opener)));
-            let at = quadword_in(clause, slot);
-            let first = input::word_of(pack, units::low_word(at));
-            fault_by(
-                card,
-                clause,
-                first,
-                input::word_of(pack, units::high_word(at)),
-            )
-        }
+impl Pack for InBytes<'_> {
+    ghost words = { λ pack. words_in pack.0.now };
+
+    fn word(&self, i: Words) -> u32 {
+        input::word_of(self.0, i)
     }
 }
 
-// A word by its number; 0 where there is none, as where a number was cut to 64 bits.
-fn word_of(words: &[u32], i: Words) -> u32
-    ensures { (n : ℕ) → i.0 ≡ capped n → result ≡ get_or words.now n 0 }
-{
-    let at = i.0;
-    if at < words.len() { words[at] } else { 0 }
+// The instruction that a verdict is about: its clause's opener, and its slot.
+#[derive(Clone, Copy, Debug, PartialEq, Eq)]
+pub(crate) struct Asked {
+    pub opener: Quadwords,
+    pub slot: Slots,
 }
 
-fn clause_by(low: u32, high: u32) -> Clause
-    ensures { result ≡ clause_of (control_of high) low high }
+// Only 9 and 15 are about what an instruction names.
+fn asked_by(verdict: Verdict) -> Option<Asked>
+    ensures { result ≡ asked_by verdict }
 {
-    let control = section::control_of(high);
-    section::clause_of(control, low, high)
-}
-
-fn start_of(clause: Clause) -> Quadwords
-    ensures { result ≡ start_of clause }
-{
-    match clause {
-        Clause::NoClause => Quadwords(0),
-        Clause::AluClause {
-            start,
-            slots: _,
-            push_before: _,
-            mode0: _,
-            mode1: _,
-        } => start,
-        Clause::FetchClause {
-            start,
-            fetches: _,
-            kind: _,
-        } => start,
+    let refusal = verdict.err()?;
+    match refusal.place {
+        Place::Quadword(opener) if matches!(refusal.rule, 9 | 15) => Some(Asked {
+            opener,
+            slot: refusal.slot,
+        }),
+        _ => None,
     }
 }
 
-fn quadword_in(clause: Clause, slot: Slots) -> Quadwords
-    ensures { result ≡ quadwords_in_64 (slot_quadword (start_of clause) slot) }
+// What that instruction names that is not granted.
+pub(crate) fn fault_of<P: Pack>(card: Card, pack: &P, verdict: Verdict) -> Option<NotGranted>
+    ensures { result ≡ define.fault_of card (P.words pack.now) verdict }
 {
-    let start = start_of(clause);
-    units::slot_quadword(start, slot)
+    let asked = asked_by(verdict)?;
+    fault_at(card, pack, asked)
+}
+
+fn fault_at<P: Pack>(card: Card, pack: &P, asked: Asked) -> Option<NotGranted>
+    ensures { result ≡ define.fault_at card (P.words pack.now) asked.opener.0 asked.slot }
+{
+    let low = pack.word(units::low_word(asked.opener));
+    let high = pack.word(units::high_word(asked.opener));
+    let clause = section::clause_of(section::control_of(high), low, high)?;
+    let at = units::slot_quadword(clause.range().start, asked.slot);
+    let first = pack.word(units::low_word(at));
+    fault_by(card, clause, first, pack.word(units::high_word(at)))
 }
 
 // The first number at fault of an instruction of the clause, or of a fetch, by its first two words.
-fn fault_by(card: Card, clause: Clause, first: u32, second: u32) -> AtFault
-    ensures { result ≡ fault_by card clause first second }
+fn fault_by(card: Card, clause: Clause, first: u32, second: u32) -> Option<NotGranted>
+    ensures { result ≡ first_fault (limits_in card (Some clause)) (define.named_by clause first second) }
 {
     match clause {
-        Clause::NoClause => AtFault::NoNumber,
-        Clause::AluClause {
-            start: _,
-            slots: _,
-            push_before: _,
-            mode0,
-            mode1,
-        } => faults::instruction_fault(limits_with(card, mode0, mode1), first, second),
-        Clause::FetchClause {
-            start: _,
-            fetches: _,
-            kind,
-        } => faults::fetch_fault(kind, limits_with(card, 0, 0), first, second),
+        Clause::Alu { mode0, mode1, .. } => {
+            faults::instruction_fault(limits_with(card, mode0, mode1), first, second)
+        }
+        Clause::Fetch { kind, .. } => {
+            faults::fetch_fault(kind, limits_with(card, 0, 0), first, second)
+        }
     }
 }

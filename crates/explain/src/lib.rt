@@ -4,33 +4,26 @@
 #![tactic(auto)]
 
 ghost use Rattle.std.specs.Prelude.{◌≡◌};
-ghost use Rattle.checks.specs.declared.Verdict.TheVariants.{Refused};
 ghost use Rattle.input.specs.Words.{words_in};
 ghost use Rattle.input.specs.Input.{bad_line};
+ghost use Rattle.report.specs.Buffer.{written_of, buffer_after};
 ghost use Rattle.explain.specs.Explain as define;
+ghost use Rattle.explain.specs.Lines.{lines_of_input, lines_of_files};
 ghost use Rattle.explain.specs.Truth.{Explains, ExplainsBytes, ExplainsInput, ExplainsFiles};
-ghost use Rattle.explain.specs.Code.{asked_by};
 
-use card::{Card, CardRead};
-use checks::{AtFault, Explanation, Place, Verdict};
-use instruction::Asked;
-use units::Slots;
+use card::{BadLine, Card};
+use checks::{Explanation, Place, Refusal, Verdict};
+use instruction::{InBytes, InWords, Pack};
+use report::TooSmall;
 
 mod instruction;
-mod lines;
-
-pub use lines::{write_files_explanation, write_input_explanation};
 
 // Explains the verdict on a pack by a card. What it names is true: the second promise says so without the code.
 pub fn explain(card: Card, words: &[u32]) -> Explanation
     ensures value { result ≡ define.explanation card words.now }
     ensures explains { Explains card words.now result }
 {
-    let verdict = judge::judge(card, words);
-    Explanation {
-        verdict,
-        fault: instruction::fault_in_words(card, words, asked_by(verdict)),
-    }
+    explained(card, &InWords(words), judge::judge(card, words))
 }
 
 // The same of a card in bytes. What stands behind its seventh line is not looked at.
@@ -38,10 +31,9 @@ pub fn explain_bytes(bytes: &[u8], words: &[u32]) -> Explanation
     ensures value { result ≡ define.explanation_of_bytes bytes.now words.now }
     ensures explains_bytes { ExplainsBytes bytes.now words.now result }
 {
-    let read = card::read_card(bytes);
-    match read {
-        CardRead::Whole(card, _) => explain(card, words),
-        CardRead::BadLine(n) => bad_line(n),
+    match card::read_card(bytes) {
+        Ok((card, _)) => explain(card, words),
+        Err(line) => bad_line(line),
     }
 }
 
@@ -50,12 +42,10 @@ pub fn explain_input(input: &[u8]) -> Explanation
     ensures value { result ≡ define.explanation_of input.now }
     ensures explains_input { ExplainsInput input.now result }
 {
-    let judged = input::judge_input(input);
-    let verdict = judged.verdict;
-    let read = card::read_card(input);
-    match read {
-        CardRead::Whole(card, taken) => explained_in_bytes(card, &input[taken..], verdict),
-        CardRead::BadLine(_) => plain(verdict),
+    let verdict = input::judge_input(input).verdict;
+    match card::read_card(input) {
+        Ok((card, taken)) => explained(card, &InBytes(&input[taken..]), verdict),
+        Err(_) => plain(verdict),
     }
 }
 
@@ -64,44 +54,40 @@ pub fn explain_files(text: &[u8], pack: &[u8]) -> Explanation
     ensures value { result ≡ define.explanation_of_files text.now pack.now }
     ensures explains_files { ExplainsFiles text.now pack.now result }
 {
-    let judged = input::judge_files(text, pack);
-    let verdict = judged.verdict;
-    let read = card::read_card(text);
-    match read {
-        CardRead::Whole(card, _) => explained_in_bytes(card, pack, verdict),
-        CardRead::BadLine(_) => plain(verdict),
+    let verdict = input::judge_files(text, pack).verdict;
+    match card::read_card(text) {
+        Ok((card, _)) => explained(card, &InBytes(pack), verdict),
+        Err(_) => plain(verdict),
     }
 }
 
-fn asked_by(verdict: Verdict) -> Asked
-    ensures { result ≡ asked_by verdict }
+// Explains an input and writes the lines to the start of `out`; where they do not fit, `out` stays as it was.
+pub fn write_input_explanation(input: &[u8], out: &mut [u8]) -> Result<usize, TooSmall>
+    ensures value { result ≡ written_of (lines_of_input input.now) out.old }
+    ensures out_after { out.new ≡ buffer_after (lines_of_input input.now) out.old }
 {
-    match verdict {
-        Verdict::Accepted => Asked::Nothing,
-        Verdict::Refused { rule, place, slot } => asked_at(rule, place, slot),
-    }
+    report::write_explanation(explain_input(input), out)
 }
 
-fn asked_at(rule: u8, place: Place, slot: Slots) -> Asked
-    ensures { result ≡ asked_by (Refused rule place slot) }
+// The same for a card's file and a pack's.
+pub fn write_files_explanation(
+    text: &[u8],
+    pack: &[u8],
+    out: &mut [u8],
+) -> Result<usize, TooSmall>
+    ensures value { result ≡ written_of (lines_of_files text.now pack.now) out.old }
+    ensures out_after { out.new ≡ buffer_after (lines_of_files text.now pack.now) out.old }
 {
-    if (rule != 9) & (rule != 15) {
-        return Asked::Nothing;
-    }
-    match place {
-        Place::Whole => Asked::Nothing,
-        Place::Line(_) => Asked::Nothing,
-        Place::Quadword(opener) => Asked::At { opener, slot },
-    }
+    report::write_explanation(explain_files(text, pack), out)
 }
 
-// A verdict on a pack in bytes, by the card.
-fn explained_in_bytes(card: Card, pack: &[u8], verdict: Verdict) -> Explanation
-    ensures { result ≡ define.explained card (words_in pack.now) verdict }
+// A verdict on a pack, by the card.
+fn explained<P: Pack>(card: Card, pack: &P, verdict: Verdict) -> Explanation
+    ensures { result ≡ define.explained card (P.words pack.now) verdict }
 {
     Explanation {
         verdict,
-        fault: instruction::fault_in_bytes(card, pack, asked_by(verdict)),
+        fault: instruction::fault_of(card, pack, verdict),
     }
 }
 
@@ -111,16 +97,12 @@ fn plain(verdict: Verdict) -> Explanation
 {
     Explanation {
         verdict,
-        fault: AtFault::NoNumber,
+        fault: None,
     }
 }
 
-fn bad_line(line: usize) -> Explanation
-    ensures { result ≡ define.plain (bad_line line) }
+fn bad_line(line: BadLine) -> Explanation
+    ensures { result ≡ define.plain (bad_line line.0) }
 {
-    plain(Verdict::Refused {
-        rule: 1,
-        place: Place::Line(line),
-        slot: Slots(0),
-    })
+    plain(Err(Refusal::of_place(1, Place::Line(line.0))))
 }

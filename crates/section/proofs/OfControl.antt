@@ -4,11 +4,11 @@ use mathlib.Core.Bool.{Bool, true, false, cond}
 use mathlib.Core.List.{List, [], ◌∷◌}
 use Prim.Native.Nat.{ℕ}
 use lib.Dec.{eqb}
-use Rattle.formats.specs.Fields.{◌of◌, CF_ALU_INST, CF_INST}
+use Rattle.formats.specs.Fields.{◌of◌, CF_INST}
 use Rattle.opcodes.specs.declared.cf.Control.{Control}
 use Rattle.opcodes.specs.declared.cf.Control.TheVariants.{NotTaken, Nop, Fetch, Branch, Export, Alu}
 use Rattle.opcodes.specs.Table.{Row, lookup}
-use Rattle.opcodes.specs.Numbers.{cf, cf_alu_control, cf_control}
+use Rattle.opcodes.specs.Numbers.{cf, cf_control}
 use Rattle.section.specs.Control.{is_alu_opener, control_of}
 
 control_cf : (hi : ℕ) → is_alu_opener hi ≡ false → cf_control (CF_INST of hi) ≡ control_of hi
