@@ -1,22 +1,19 @@
 -- The order of all checks, and the judgement: document 01, "Numbers and what they mean". Order: 1, 2, 3. Then first pass, CF positions
 -- rising; at each, 4 to 17 rising, with 22 directly behind 6 (document 02, request 4). Only if the first pass is clean, second pass:
 -- positions rising, 18 before 19.
-use Rattle.std.specs.Prelude.{ℕ, suc, Bool, not, List, [], ◌∷◌, ◌++◌}
+use Rattle.std.specs.Prelude.{ℕ, suc, Bool, not, Option, Some, None, Ok, Err, List, [], ◌∷◌, ◌++◌}
 use Rattle.units.specs.declared.Quadwords.{Quadwords}
 use Rattle.units.specs.Units.{quadwords, slots, low_at, high_at}
 use Rattle.checks.specs.declared.Place.TheVariants.{Whole, Line}
-use Rattle.checks.specs.declared.Verdict.{Verdict}
-use Rattle.checks.specs.declared.Verdict.TheVariants.{Refused}
+use Rattle.checks.specs.Verdict.{Verdict, Refused}
 use Rattle.checks.specs.Checks.{Check, check, of_pair, first_broken, below}
 use Rattle.card.specs.declared.Card.{Card}
-use Rattle.card.specs.declared.CardRead.{CardRead}
-use Rattle.card.specs.declared.CardRead.TheVariants as read
-use Rattle.card.specs.Card.{figure_tests, card_of}
+use Rattle.card.specs.Card.{CardRead, figure_tests, card_of}
 use Rattle.grants.specs.declared.Limits.{Limits}
 use Rattle.fetches.specs.Fetches as fetches
 use Rattle.clauses.specs.Clause as alu
 use Rattle.section.specs.declared.Clause.{Clause}
-use Rattle.section.specs.declared.Clause.TheVariants.{NoClause, AluClause, FetchClause}
+use Rattle.section.specs.declared.Clause.TheVariants.{Alu, Fetch}
 use Rattle.section.specs.Control.{control_at, end_of}
 use Rattle.section.specs.Rules.{bad_length, no_end, is_not_taken, bad_field, clause_at, bad_range, bad_export}
 use Rattle.apart.specs.Apart.{layout_checks}
@@ -36,17 +33,17 @@ abbrev pub limits_with : Card → ℕ → ℕ → Limits
 limits_with card mode0 mode1 =
     record { gprs = card.gprs; temps = card.temps; consts = card.consts; mode0 = mode0; mode1 = mode1 }
 
-abbrev pub limits_in : Card → Clause → Limits
-limits_in card NoClause = limits_with card 0 0
-limits_in card (AluClause start n push mode0 mode1) = limits_with card mode0 mode1
-limits_in card (FetchClause start n kind) = limits_with card 0 0
+abbrev pub limits_in : Card → Option Clause → Limits
+limits_in card None = limits_with card 0 0
+limits_in card (Some (Alu start n push mode0 mode1)) = limits_with card mode0 mode1
+limits_in card (Some (Fetch start n kind)) = limits_with card 0 0
 
 -- 8 to 15 in a clause
-unfoldable pub clause_checks : Card → List ℕ → Quadwords → Clause → List Check
-clause_checks card w place NoClause = []
-clause_checks card w place (AluClause start n push mode0 mode1) =
+unfoldable pub clause_checks : Card → List ℕ → Quadwords → Option Clause → List Check
+clause_checks card w place None = []
+clause_checks card w place (Some (Alu start n push mode0 mode1)) =
     alu.clause_checks card.kind push (limits_with card mode0 mode1) w place start n
-clause_checks card w place (FetchClause start n kind) = fetches.clause_checks kind (limits_with card 0 0) w place start n
+clause_checks card w place (Some (Fetch start n kind)) = fetches.clause_checks kind (limits_with card 0 0) w place start n
 
 -- 4, 5, 6
 unfoldable pub range_checks : Card → List ℕ → ℕ → ℕ → List Check
@@ -86,8 +83,8 @@ judgement card w = first_broken (checks card w)
 
 -- on a card in bytes: the first line at fault is 1's place; what stands behind line 7 is not looked at
 abbrev pub read_judgement : CardRead → List ℕ → Verdict
-read_judgement (read.BadLine n) w = Refused 1 (Line n) (slots 0)
-read_judgement (read.Whole card n) w = judgement card w
+read_judgement (Err line) w = Refused 1 (Line line.0) (slots 0)
+read_judgement (Ok (card, n)) w = judgement card w
 
 unfoldable pub judgement_of_bytes : List ℕ → List ℕ → Verdict
 judgement_of_bytes bytes w = read_judgement (card_of bytes) w

@@ -1,17 +1,16 @@
 -- Demand 3: what holds of document 01's walk of an accepted pack, after any list of answers.
-use Rattle.std.specs.Prelude.{ℕ, zero, suc, ◌≤◌, ◌<◌, ◌≡◌, Bool, true, false, length}
+use Rattle.std.specs.Prelude.{ℕ, zero, suc, ◌≤◌, ◌<◌, ◌≡◌, Bool, true, false, Option, Some, None, length}
 use mathlib.Core.List.{List, [], ◌∷◌, ◌++◌, Memᴰ}
 use Rattle.units.specs.declared.Slots.{Slots}
 use Rattle.units.specs.Units.{slots, low_at, high_at, words_of, range_end, slots_length, fetches_length}
 use Rattle.card.specs.declared.Card.{Card}
-use Rattle.card.specs.declared.CardRead.TheVariants.{Whole}
-use Rattle.card.specs.Card.{card_of}
+use Rattle.card.specs.Card.{Whole, card_of}
 use Rattle.grants.specs.Grants.{Name, granted}
 use Rattle.fetches.specs.Fetches as fetches
 use Rattle.clauses.specs.Clause as alu
 use Rattle.opcodes.specs.declared.cf.Control.TheVariants.{NotTaken}
 use Rattle.section.specs.declared.Clause.{Clause}
-use Rattle.section.specs.declared.Clause.TheVariants.{NoClause, AluClause, FetchClause}
+use Rattle.section.specs.declared.Clause.TheVariants.{Alu, Fetch}
 use Rattle.section.specs.Control.{control_at, is_end, end_of}
 use Rattle.section.specs.Rules.{clause_at, export_names}
 use Rattle.walk.specs.Flow.{flow_at}
@@ -21,16 +20,16 @@ use Rattle.judge.specs.Judge.{limits_in}
 -- ---- what the clause that a pair opens (TEX, VTX, VTX_TC, CF_ALU) is sure of, and what is named
 
 -- a clause lies wholly behind the section, which ends at e, and inside a buffer of m words
-abbrev pub LiesBehind : ℕ → ℕ → Clause → Type 0
-LiesBehind e m NoClause = Unit {0}
-LiesBehind e m (AluClause s n push mode0 mode1) = (e < s.0) × ((words_of (range_end s (slots_length n))).0 ≤ m)
-LiesBehind e m (FetchClause s n kind) = (e < s.0) × ((words_of (range_end s (fetches_length n))).0 ≤ m)
+abbrev pub LiesBehind : ℕ → ℕ → Option Clause → Type 0
+LiesBehind e m None = Unit {0}
+LiesBehind e m (Some (Alu s n push mode0 mode1)) = (e < s.0) × ((words_of (range_end s (slots_length n))).0 ≤ m)
+LiesBehind e m (Some (Fetch s n kind)) = (e < s.0) × ((words_of (range_end s (fetches_length n))).0 ≤ m)
 
 -- the groups of an ALU clause fill it exactly, from its first slot to its last: there is no instruction in it but theirs
-abbrev pub IsFilled : List ℕ → Clause → Type 0
-IsFilled w NoClause = Unit {0}
-IsFilled w (AluClause s n push mode0 mode1) = alu.Fills w s n (slots 0) (alu.groups_of w s n)
-IsFilled w (FetchClause s n kind) = Unit {0}
+abbrev pub IsFilled : List ℕ → Option Clause → Type 0
+IsFilled w None = Unit {0}
+IsFilled w (Some (Alu s n push mode0 mode1)) = alu.Fills w s n (slots 0) (alu.groups_of w s n)
+IsFilled w (Some (Fetch s n kind)) = Unit {0}
 
 -- the names below n, and those of a list of groups
 unfoldable pub names_below : (ℕ → List Name) → ℕ → List Name
@@ -42,11 +41,11 @@ names_of_each f [] = []
 names_of_each f (g ∷ gs) = f g ++ names_of_each f gs
 
 -- every register and constant directly named in a clause: by each instruction of each group, by each fetch
-unfoldable pub clause_names : List ℕ → Clause → List Name
-clause_names w NoClause = []
-clause_names w (AluClause s n push mode0 mode1) =
+unfoldable pub clause_names : List ℕ → Option Clause → List Name
+clause_names w None = []
+clause_names w (Some (Alu s n push mode0 mode1)) =
     names_of_each (λ g. names_below (alu.named_at w s g) (alu.size_at w s n g)) (alu.groups_of w s n)
-clause_names w (FetchClause s n kind) = names_below (fetches.named_at kind w s) n.0
+clause_names w (Some (Fetch s n kind)) = names_below (fetches.named_at kind w s) n.0
 
 -- by the pair at p itself (exports) or in its clause
 unfoldable pub names_at : List ℕ → ℕ → List Name

@@ -23,6 +23,7 @@ use Rattle.walk.specs.declared.Flow.{Flow}
 use Rattle.opcodes.specs.declared.cf.Branch.TheVariants.{LoopEnd, LoopStart, BreakOrContinue, Jump, Else, Pop}
 use Rattle.walk.specs.declared.Flow.TheVariants.{Still, PushMark, PopMarks, Branch}
 use Rattle.walk.specs.declared.Frames.{Frames}
+use Rattle.walk.specs.declared.StackFault.{StackFault}
 use Rattle.walk.specs.declared.StackFault.TheVariants.{Lacks, TooDeep}
 use Rattle.walk.specs.declared.rows.Row.{Row}
 use Rattle.walk.specs.Flow.{M, L, Stack, lacks, goes, pop_to, move, stack_of, stack_at}
@@ -287,11 +288,11 @@ module _ (limit : ℕ) (code : ℕ → Flow) (p : ℕ) (s : Frames) (h : Held co
           (le-ltb limit (length (stack_at code (suc p))) (omega (arith, k.held.size, k.no_deeper l)))
 
       -- rules 16 and 17 at p, as the first pass asks them
-      pub frames-refused : (e : ℕ) → (m ≡ (Err Lacks)) ⊎ (m ≡ (Err TooDeep))
+      pub frames-refused : (e : ℕ) (fault : StackFault) → m ≡ Err fault
           → first_broken (stack_checks limit e code p) ≡ Refused 16 (Quadword (quadwords p)) (slots 0)
       unfolding stack_checks first_broken
-      frames-refused e (inl q) = rw (missing-frame q)
-      frames-refused e (inr q) = rw (too-deep q)
+      frames-refused e Lacks q = rw (missing-frame q)
+      frames-refused e TooDeep q = rw (too-deep q)
 
       pub end_refused : (e : ℕ) (f : Frames) → m ≡ Ok f → s.depth ≤ limit → p ≡ e → (s.depth ≡ 0 → ⊥)
           → first_broken (stack_checks limit e code p) ≡ Refused 17 (Quadword (quadwords p)) (slots 0)
