@@ -1,8 +1,9 @@
 -- What a group comes to, from all that was read of it, and what that says of the clause. Assumes nothing.
-use Rattle.std.proofs.Common.{◌≡◌, ℕ, ◌+◌, ◌-◌, ◌^◌, ◌<◌, ◌≤◌, Bool, true, false, cond, not, ◌&&◌, eqb, ltb, List, Option, Some, None, Ok, Err, sym, refl, ap, ◌∙◌, subst, true≢false, arith, leb, le-leb, ltb-false, ltb-true, eq-eqb, ne_eqb, zero, suc}
+use Rattle.std.proofs.Common.{◌≡◌, ℕ, ◌+◌, ◌-◌, ◌^◌, ◌<◌, ◌≤◌, Bool, true, false, cond, not, ◌&&◌, eqb, ltb, List, Option, Some, None, Ok, Err, sym, refl, ap, ◌∙◌, subst, true≢false, arith, ltb-false, ltb-true, eq-eqb, ne_eqb, zero, suc}
 use lib.Dec.{eqb-suc-zero}
 use mathlib.Core.Bool.{false≢true}
-use borrow.Author.Tests.{lt-leb}
+use Rattle.std.proofs.lemmas.Bool.Decides.{nat_tests}
+use Rattle.std.specs.Ordering.{is_le, nat_cmp}
 use Rattle.units.specs.declared.Quadwords.{Quadwords}
 use Rattle.units.specs.declared.Slots.{Slots}
 use Rattle.units.specs.Units.{slots, slot_quadword, slot_behind, slots_left, is_slot_below}
@@ -36,13 +37,8 @@ some_same : {a b : Group} → Some a ≡ Some b → a ≡ b
 some_same h = cc
 
 -- a group with no slot left behind it ends its clause
-ends-by : (left span : ℕ) → leb left span ≡ not (ltb span left)
-ends-by left span = by (ltb span left) refl
-  where
-    by : (b : Bool) → ltb span left ≡ b → leb left span ≡ not b
-    by true e = lt-leb left span (ltb-true span left e)
-    by false e = le-leb left span (ltb-false span left e)
-
+ends-by : (left span : ℕ) → is_le (nat_cmp left span) ≡ not (ltb span left)
+ends-by left span = grind (arith, nat_tests)
 
 abbrev is_passed : Step → Bool
 is_passed (Ok passed) = true
@@ -132,12 +128,13 @@ module _ (limits : Limits) (pixel : Bool) (w : List ℕ) (at : Quadwords) (left 
       pub step-too-long : left.0 < span.0 → Unshaped ≡ step_of limits pixel w at left
       step-too-long f = broken_shape (bad_span w at left (omega (arith, f, ap (λ (x : Slots). x.0) span-exact)))
 
-      module _ (f : span.0 ≤ left.0) {x : Outcome} (y : x ≡ fault_of group.seen group.size.0 (pixel && leb left.0 span.0)) where
+      module _ (f : span.0 ≤ left.0) {p b : Bool} (p-is : p ≡ pixel) (b-is : b ≡ is_le (nat_cmp left.0 span.0)) {x : Outcome}
+          (y : x ≡ fault_of group.seen group.size.0 (p && b)) where
         read-fault : step_by x span group.seen.issues.setters ≡ step_of limits pixel w at left
         read-fault =
             by_fault
             (good w at left (λ z. absurd (omega (arith, z, parts.0))) (omega (arith, f, ap (λ (x : Slots). x.0) span-exact)))
-            (y ∙ (λ i. fault_of (parts.1 i).seen (parts.1 i).size.0 (pixel && (ends-by left.0 span.0 ∙ (λ j. ends_clause left (span-exact j))) i)))
+            (y ∙ (λ i. fault_of (parts.1 i).seen (parts.1 i).size.0 (p-is i && (b-is ∙ ends-by left.0 span.0 ∙ (λ j. ends_clause left (span-exact j))) i)))
             span-exact count-is
 
         pub step-broken : {broken : GroupFault} → x ≡ Err broken → Err broken ≡ step_of limits pixel w at left
