@@ -1,207 +1,76 @@
--- The codec with rows of values: an instruction as a row of values of 32 bits, and what the two functions answer and leave in what is lent to
--- them. Both go by the decoder and the encoder of crate microcode: document 01, "Numbers and what they mean".
-use Rattle.std.specs.Prelude.{ℕ, ◌%◌, ◌^◌, ◌≡◌, Bool, cond, ◌&&◌, List, [], ◌∷◌, ◌++◌, eqb, leb, length, get_or, drop}
-use Rattle.units.specs.Units.{quadwords, slots, words}
-use Rattle.checks.specs.declared.Verdict.{Verdict}
-use Rattle.checks.specs.Verdict.{verdict_number}
+-- The codec with rows of values: an instruction as a row of values of 32 bits, and what the functions on rows and those for C answer and leave in
+-- what is lent to them. All go by the decoder and the encoder of crate microcode: document 01, "Numbers and what they mean".
+use Rattle.std.specs.Prelude.{ℕ, ◌+◌, ◌%◌, ◌^◌, ◌≡◌, ⊤, Bool, cond, ◌&&◌, List, [], ◌∷◌, ◌++◌, eqb, leb, length, get_or, drop, Option, Some, None, Result, Ok, Err}
+use Rattle.units.specs.Units.{words}
+use Rattle.checks.specs.Verdict.{Verdict, verdict_number}
 use Rattle.formats.specs.declared.cf.CfWord0.{CfWord0}
 use Rattle.formats.specs.declared.cf.CfWord1.{CfWord1}
 use Rattle.formats.specs.declared.cf_alu.CfAluWord0.{CfAluWord0}
 use Rattle.formats.specs.declared.cf_alu.CfAluWord1.{CfAluWord1}
-use Rattle.formats.specs.declared.export.CfAllocExportWord0.{CfAllocExportWord0}
-use Rattle.formats.specs.declared.export.CfAllocExportWord1Swiz.{CfAllocExportWord1Swiz}
-use Rattle.formats.specs.declared.alu.AluWord0.{AluWord0}
-use Rattle.formats.specs.declared.alu.AluWord1Op2.{AluWord1Op2}
-use Rattle.formats.specs.declared.alu.AluWord1Op3.{AluWord1Op3}
+use Rattle.formats.specs.Cf as cf
+use Rattle.formats.specs.CfAlu as cf_alu
 use Rattle.formats.specs.Export as export
 use Rattle.formats.specs.Alu as alu
 use Rattle.microcode.specs.declared.Instruction.{Instruction}
 use Rattle.microcode.specs.declared.Instruction.TheVariants.{CfAlu, Cf, Export, Op2, Op3}
-use Rattle.microcode.specs.declared.Decoded.{Decoded}
-use Rattle.microcode.specs.declared.Decoded.TheVariants.{Outside, NotTaken, Taken}
-use Rattle.microcode.specs.declared.Encoded.{Encoded}
-use Rattle.microcode.specs.declared.Encoded.TheVariants.{NoRecord, NoRoom, Done}
+use Rattle.microcode.specs.declared.DecodeError.{DecodeError}
+use Rattle.microcode.specs.declared.EncodeError.TheVariants.{NoRecord, NoRoom}
 use Rattle.microcode.specs.declared.Stream.{Stream}
 use Rattle.microcode.specs.declared.Stream.TheVariants.{ControlFlow, Alu}
+use Rattle.microcode.specs.Answer.{Decoded, Encoded, Done}
 use Rattle.microcode.specs.Buffer.{decode_of, decoded_verdict, encode_answer, encode_words, encoded_verdict}
 
 -- ---- a record as values: the form, then the fields of word 0, then those of word 1, each in AMD's order from the lowest bit up
 
--- form 0, CF_ALU. ADDR and COUNT are cut to 32 bits, here and below: no record that was decoded has more, nor one that can be encoded
-abbrev pub cf_alu_values : CfAluWord0 → CfAluWord1 → List ℕ
-cf_alu_values a b =
-    0
-    ∷ a.addr.0 % 2 ^ 32
-    ∷ a.kcache_bank0
-    ∷ a.kcache_bank1
-    ∷ a.kcache_mode0
-    ∷ b.kcache_mode1
-    ∷ b.kcache_addr0
-    ∷ b.kcache_addr1
-    ∷ b.count.0 % 2 ^ 32
-    ∷ b.alt_const
-    ∷ b.cf_inst
-    ∷ b.whole_quad_mode
-    ∷ b.barrier
+-- of CF_ALU and CF: ADDR and COUNT are cut to 32 bits, since no record that was decoded has more, nor one that can be encoded. COUNT, which has
+-- two pieces in the word of a CF, is one value; `rest` is bit 20
+abbrev pub cf_alu_word0_row : CfAluWord0 → List ℕ
+cf_alu_word0_row r =
+    r.addr.0 % 2 ^ 32
+    ∷ r.kcache_bank0
+    ∷ r.kcache_bank1
+    ∷ r.kcache_mode0
     ∷ []
 
--- form 1, CF. COUNT, which has two pieces in the word, is one value; `rest` is bit 20
-abbrev pub cf_values : CfWord0 → CfWord1 → List ℕ
-cf_values a b =
-    1
-    ∷ a.addr.0 % 2 ^ 32
-    ∷ b.pop_count
-    ∷ b.cf_const
-    ∷ b.cond
-    ∷ b.count.0 % 2 ^ 32
-    ∷ b.call_count
-    ∷ b.rest
-    ∷ b.end_of_program
-    ∷ b.valid_pixel_mode
-    ∷ b.cf_inst
-    ∷ b.whole_quad_mode
-    ∷ b.barrier
+abbrev pub cf_alu_word1_row : CfAluWord1 → List ℕ
+cf_alu_word1_row r =
+    r.kcache_mode1
+    ∷ r.kcache_addr0
+    ∷ r.kcache_addr1
+    ∷ r.count.0 % 2 ^ 32
+    ∷ r.alt_const
+    ∷ r.cf_inst
+    ∷ r.whole_quad_mode
+    ∷ r.barrier
     ∷ []
 
--- form 2, export; the carried bits 16:12 are one value
-abbrev pub export_values : CfAllocExportWord0 → CfAllocExportWord1Swiz → List ℕ
-export_values a b = 2 ∷ export.word0_values a ++ export.word1_values b
+abbrev pub cf_word0_row : CfWord0 → List ℕ
+cf_word0_row r = r.addr.0 % 2 ^ 32 ∷ []
 
--- form 3, ALU with OP2: the longest of the pairs, 24 values
-abbrev pub op2_values : AluWord0 → AluWord1Op2 → List ℕ
-op2_values a b = 3 ∷ alu.word0_values a ++ alu.op2_values b
+abbrev pub cf_word1_row : CfWord1 → List ℕ
+cf_word1_row r =
+    r.pop_count
+    ∷ r.cf_const
+    ∷ r.cond
+    ∷ r.count.0 % 2 ^ 32
+    ∷ r.call_count
+    ∷ r.rest
+    ∷ r.end_of_program
+    ∷ r.valid_pixel_mode
+    ∷ r.cf_inst
+    ∷ r.whole_quad_mode
+    ∷ r.barrier
+    ∷ []
 
--- form 4, ALU with OP3
-abbrev pub op3_values : AluWord0 → AluWord1Op3 → List ℕ
-op3_values a b = 4 ∷ alu.word0_values a ++ alu.op3_values b
-
+-- the forms are 0, CF_ALU, 1, CF, 2, export, whose carried bits 16:12 are one value, 3, ALU with OP2, the longest with 24 values, and 4, ALU with OP3
 abbrev pub values_of : Instruction → List ℕ
-values_of (CfAlu a b) = cf_alu_values a b
-values_of (Cf a b) = cf_values a b
-values_of (Export a b) = export_values a b
-values_of (Op2 a b) = op2_values a b
-values_of (Op3 a b) = op3_values a b
+values_of (CfAlu a b) = 0 ∷ cf_alu_word0_row a ++ cf_alu_word1_row b
+values_of (Cf a b) = 1 ∷ cf_word0_row a ++ cf_word1_row b
+values_of (Export a b) = 2 ∷ export.word0_values a ++ export.word1_values b
+values_of (Op2 a b) = 3 ∷ alu.word0_values a ++ alu.op2_values b
+values_of (Op3 a b) = 4 ∷ alu.word0_values a ++ alu.op3_values b
 
 -- ---- values as a record: each field where `values_of` has it (`record_of_values`, proofs/OfValues.antt)
-
-abbrev pub cf_alu_word0_at : List ℕ → CfAluWord0
-cf_alu_word0_at vs =
-    record {
-      addr = quadwords (get_or vs 1 0);
-      kcache_bank0 = get_or vs 2 0;
-      kcache_bank1 = get_or vs 3 0;
-      kcache_mode0 = get_or vs 4 0;
-    }
-
-abbrev pub cf_alu_word1_at : List ℕ → CfAluWord1
-cf_alu_word1_at vs =
-    record {
-      kcache_mode1 = get_or vs 5 0;
-      kcache_addr0 = get_or vs 6 0;
-      kcache_addr1 = get_or vs 7 0;
-      count = slots (get_or vs 8 0);
-      alt_const = get_or vs 9 0;
-      cf_inst = get_or vs 10 0;
-      whole_quad_mode = get_or vs 11 0;
-      barrier = get_or vs 12 0;
-    }
-
-abbrev pub cf_word0_at : List ℕ → CfWord0
-cf_word0_at vs =
-    record {
-      addr = quadwords (get_or vs 1 0);
-    }
-
-abbrev pub cf_word1_at : List ℕ → CfWord1
-cf_word1_at vs =
-    record {
-      pop_count = get_or vs 2 0;
-      cf_const = get_or vs 3 0;
-      cond = get_or vs 4 0;
-      count = slots (get_or vs 5 0);
-      call_count = get_or vs 6 0;
-      rest = get_or vs 7 0;
-      end_of_program = get_or vs 8 0;
-      valid_pixel_mode = get_or vs 9 0;
-      cf_inst = get_or vs 10 0;
-      whole_quad_mode = get_or vs 11 0;
-      barrier = get_or vs 12 0;
-    }
-
-abbrev pub export_word0_at : List ℕ → CfAllocExportWord0
-export_word0_at vs =
-    record {
-      array_base = get_or vs 1 0;
-      export_type = get_or vs 2 0;
-      rw_gpr = get_or vs 3 0;
-      rw_rel = get_or vs 4 0;
-      index_gpr = get_or vs 5 0;
-      elem_size = get_or vs 6 0;
-    }
-
-abbrev pub export_word1_at : List ℕ → CfAllocExportWord1Swiz
-export_word1_at vs =
-    record {
-      sel_x = get_or vs 7 0;
-      sel_y = get_or vs 8 0;
-      sel_z = get_or vs 9 0;
-      sel_w = get_or vs 10 0;
-      rest = get_or vs 11 0;
-      burst_count = get_or vs 12 0;
-      end_of_program = get_or vs 13 0;
-      valid_pixel_mode = get_or vs 14 0;
-      cf_inst = get_or vs 15 0;
-      whole_quad_mode = get_or vs 16 0;
-      barrier = get_or vs 17 0;
-    }
-
-abbrev pub alu_word0_at : List ℕ → AluWord0
-alu_word0_at vs =
-    record {
-      src0_sel = get_or vs 1 0;
-      src0_rel = get_or vs 2 0;
-      src0_chan = get_or vs 3 0;
-      src0_neg = get_or vs 4 0;
-      src1_sel = get_or vs 5 0;
-      src1_rel = get_or vs 6 0;
-      src1_chan = get_or vs 7 0;
-      src1_neg = get_or vs 8 0;
-      index_mode = get_or vs 9 0;
-      pred_sel = get_or vs 10 0;
-      last = get_or vs 11 0;
-    }
-
-abbrev pub op2_at : List ℕ → AluWord1Op2
-op2_at vs =
-    record {
-      src0_abs = get_or vs 12 0;
-      src1_abs = get_or vs 13 0;
-      update_execute_mask = get_or vs 14 0;
-      update_pred = get_or vs 15 0;
-      write_mask = get_or vs 16 0;
-      omod = get_or vs 17 0;
-      alu_inst = get_or vs 18 0;
-      bank_swizzle = get_or vs 19 0;
-      dst_gpr = get_or vs 20 0;
-      dst_rel = get_or vs 21 0;
-      dst_chan = get_or vs 22 0;
-      clamp = get_or vs 23 0;
-    }
-
-abbrev pub op3_at : List ℕ → AluWord1Op3
-op3_at vs =
-    record {
-      src2_sel = get_or vs 12 0;
-      src2_rel = get_or vs 13 0;
-      src2_chan = get_or vs 14 0;
-      src2_neg = get_or vs 15 0;
-      alu_inst = get_or vs 16 0;
-      bank_swizzle = get_or vs 17 0;
-      dst_gpr = get_or vs 18 0;
-      dst_rel = get_or vs 19 0;
-      dst_chan = get_or vs 20 0;
-      clamp = get_or vs 21 0;
-    }
 
 abbrev pub form_of : List ℕ → ℕ
 form_of vs = get_or vs 0 0
@@ -209,10 +78,10 @@ form_of vs = get_or vs 0 0
 -- by the form; that it is at most 4 is asked by `is_record`
 unfoldable pub record_of : List ℕ → Instruction
 record_of vs =
-    cond (eqb (form_of vs) 0) (CfAlu (cf_alu_word0_at vs) (cf_alu_word1_at vs))
-    (cond (eqb (form_of vs) 1) (Cf (cf_word0_at vs) (cf_word1_at vs))
-    (cond (eqb (form_of vs) 2) (Export (export_word0_at vs) (export_word1_at vs))
-    (cond (eqb (form_of vs) 3) (Op2 (alu_word0_at vs) (op2_at vs)) (Op3 (alu_word0_at vs) (op3_at vs)))))
+    cond (eqb (form_of vs) 0) (CfAlu (cf_alu.word0_at 1 vs) (cf_alu.word1_at 5 vs))
+    (cond (eqb (form_of vs) 1) (Cf (cf.word0_at 1 vs) (cf.word1_at 2 vs))
+    (cond (eqb (form_of vs) 2) (Export (export.word0_at 1 vs) (export.word1_at 7 vs))
+    (cond (eqb (form_of vs) 3) (Op2 (alu.word0_at 1 vs) (alu.op2_at 12 vs)) (Op3 (alu.word0_at 1 vs) (alu.op3_at 12 vs)))))
 
 -- a row has 32 elements or more, whatever its form; the longest, a texture fetch, takes 30 of them
 abbrev pub row_length : ℕ
@@ -226,53 +95,60 @@ is_record vs = roomy vs && leb (form_of vs) 4
 
 -- ---- decoding
 
+-- values over the beginning of l; what stands behind them stays
+abbrev pub written : List ℕ → List ℕ → List ℕ
+written vs l = vs ++ drop (length vs) l
+
+-- what was decoded is put into a row, or isn't
+abbrev pub told : {A : Type 0} → Result A DecodeError → Result ⊤ DecodeError
+told (Ok a) = Ok (record {})
+told (Err e) = Err e
+
+-- the row afterwards: a refusal changes nothing
+abbrev pub row_after : Decoded → List ℕ → List ℕ
+row_after (Ok i) vs = cond (roomy vs) (written (values_of i) vs) vs
+row_after (Err e) vs = vs
+
+-- ---- decoding for C
+
 -- the streams by number: 0 is control flow, 1 is ALU, and there is no other
 abbrev pub stream_number : Stream → ℕ
 stream_number ControlFlow = 0
 stream_number Alu = 1
 
-unfoldable pub is_stream : ℕ → Bool
-is_stream n = leb n 1
-
--- that it is a stream's number is asked by `is_stream`
-unfoldable pub stream_numbered : ℕ → Stream
-stream_numbered n = cond (eqb n 0) ControlFlow Alu
+unfoldable pub stream_numbered : ℕ → Option Stream
+stream_numbered n = cond (eqb n 0) (Some ControlFlow) (cond (eqb n 1) (Some Alu) None)
 
 -- the values of a record go into such a row; a shorter one has no room for them
 abbrev pub row_answer : List ℕ → Encoded
-row_answer vs = cond (roomy vs) Done NoRoom
+row_answer vs = cond (roomy vs) Done (Err NoRoom)
 
 -- the decoder's refusal, and of a record what the row answers: room is asked for last, as the encoder does
 abbrev pub row_verdict : Stream → Decoded → List ℕ → Verdict
-row_verdict stream Outside vs = decoded_verdict stream Outside
-row_verdict stream NotTaken vs = decoded_verdict stream NotTaken
-row_verdict stream (Taken i) vs = encoded_verdict (row_answer vs)
+row_verdict stream (Ok i) vs = encoded_verdict (row_answer vs)
+row_verdict stream (Err e) vs = decoded_verdict stream (Err e)
 
--- values over the beginning of l; what stands behind them stays
-abbrev pub written : List ℕ → List ℕ → List ℕ
-written vs l = vs ++ drop (length vs) l
+-- 21 before all others where there is no such stream, since then there is no record to ask for
+abbrev pub stream_verdict : Option Stream → List ℕ → ℕ → List ℕ → Verdict
+stream_verdict (Some stream) l start vs = row_verdict stream (decode_of stream l (words start)) vs
+stream_verdict None l start vs = encoded_verdict (Err NoRecord)
 
--- the row afterwards: a refusal changes nothing
-abbrev pub row_after : Decoded → List ℕ → List ℕ
-row_after Outside vs = vs
-row_after NotTaken vs = vs
-row_after (Taken i) vs = cond (roomy vs) (written (values_of i) vs) vs
+abbrev pub stream_row : Option Stream → List ℕ → ℕ → List ℕ → List ℕ
+stream_row (Some stream) l start vs = row_after (decode_of stream l (words start)) vs
+stream_row None l start vs = vs
 
--- the answer's number; 21 before all others where there is no such stream, since then there is no record to ask for
-unfoldable pub decoded_number : ℕ → List ℕ → ℕ → List ℕ → ℕ
-decoded_number stream l start vs =
-    cond (is_stream stream)
-    (verdict_number (row_verdict (stream_numbered stream) (decode_of (stream_numbered stream) l (words start)) vs))
-    (verdict_number (encoded_verdict NoRecord))
+-- the answer's number, and the row afterwards
+abbrev pub decoded_number : ℕ → List ℕ → ℕ → List ℕ → ℕ
+decoded_number stream l start vs = verdict_number (stream_verdict (stream_numbered stream) l start vs)
 
-unfoldable pub decoded_values : ℕ → List ℕ → ℕ → List ℕ → List ℕ
-decoded_values stream l start vs = cond (is_stream stream) (row_after (decode_of (stream_numbered stream) l (words start)) vs) vs
+abbrev pub decoded_values : ℕ → List ℕ → ℕ → List ℕ → List ℕ
+decoded_values stream l start vs = stream_row (stream_numbered stream) l start vs
 
 -- ---- encoding
 
 -- what the encoder answers, and before that no record where the row is shorter or its form is none
 unfoldable pub encoded_from : List ℕ → List ℕ → ℕ → Encoded
-encoded_from vs l start = cond (is_record vs) (encode_answer (record_of vs) l (words start)) NoRecord
+encoded_from vs l start = cond (is_record vs) (encode_answer (record_of vs) l (words start)) (Err NoRecord)
 
 abbrev pub encoded_number : List ℕ → List ℕ → ℕ → ℕ
 encoded_number vs l start = verdict_number (encoded_verdict (encoded_from vs l start))

@@ -1,167 +1,108 @@
-// The values of a fetch, form by form: the form, the fields of word 0, those of word 1, those of word 2. Each form goes from its words to its
-// values by itself, so that nothing has to ask for the form again.
-ghost use Rattle.std.specs.Prelude.{◌≡◌};
-ghost use Rattle.fetch_codec.specs.declared.Found.TheVariants as found;
-ghost use Rattle.fetch_codec.specs.Buffer.{decoded_from};
-ghost use Rattle.codec_for_c.specs.Values.{row_answer};
-ghost use Rattle.codec_for_c.specs.FetchValues.{tex_values, vtx_gpr_values, vtx_sem_values, fetch_after};
+// A fetch as a row, and back: the form, the fields of word 0, of word 1 and of word 2.
+ghost use Rattle.std.specs.Prelude.{◌≡◌, ◌+◌, ◌≤◌, ◌&&◌};
+ghost use Rattle.bits.specs.Tables.{word_of, fits_table};
+ghost use Rattle.microcode.specs.Buffer.{write_answer, write_words};
+ghost use Rattle.fetch_codec.specs.Fetch.{words_if};
+ghost use Rattle.fetch_codec.specs.Buffer.{decode_of, record_found};
+ghost use Rattle.codec_for_c.specs.Values.{written, told};
+ghost use Rattle.codec_for_c.specs.FetchValues.{fetch_values, fetch_after, fetch_from, fetch_words};
 
-use crate::{ROW, put};
+use crate::Row;
+use crate::in_row::{InRow, Lift, put_three};
+use fetch_codec::{Clause, Found};
+use formats::Format;
 use formats::tex::{TexWord0, TexWord1, TexWord2};
 use formats::vtx::{VtxWord0, VtxWord1Gpr, VtxWord1Sem, VtxWord2};
-use microcode::Encoded;
+use microcode::{DecodeError, EncodeError};
+use opcodes::cf::FetchKind;
+use units::Words;
 
-// The values of a texture fetch's words, where there is room.
-pub(crate) fn write_tex(word0: u32, word1: u32, word2: u32, values: &mut [u32]) -> Encoded
-    ensures value { result ≡ row_answer values.old }
-    ensures values_after { values.new ≡ fetch_after (decoded_from (found.Tex word0 word1 word2)) values.old }
+// The fetch at `start`, which may be any number, over the beginning of the row; a refusal changes nothing.
+pub fn decode_fetch_row(
+    words: &[u32],
+    start: Words,
+    clause: Clause,
+    row: &mut Row,
+) -> Result<(), DecodeError>
+    ensures value { result ≡ told (decode_of clause words.now start) }
+    ensures row_after { row.new ≡ fetch_after (decode_of clause words.now start) row.old }
 {
-    let room = values.len();
-    if room < ROW {
-        return Encoded::NoRoom;
+    let found = fetch_codec::find(words, start, clause)?;
+    put_found(found, row);
+    Ok(())
+}
+
+// What was found, over the beginning of the row.
+pub(crate) fn put_found(found: Found, row: &mut Row)
+    ensures { row.new ≡ written (fetch_values (record_found found)) row.old }
+{
+    match found {
+        Found::Tex(word0, word1, word2) => {
+            let a = TexWord0::read(word0);
+            put_three(5, a, TexWord1::read(word1), TexWord2::read(word2), row);
+            // Once more, so that it is written last: the three forms then end differently, and the compiler does not join their ends, which
+            // would have each value wait on the stack (docs/MACHINE-CODE.md).
+            row[0] = 5;
+        }
+        Found::VtxGpr(word0, word1, word2) => {
+            let a = VtxWord0::read(word0);
+            put_three(6, a, VtxWord1Gpr::read(word1), VtxWord2::read(word2), row);
+        }
+        Found::VtxSem(word0, word1, word2) => {
+            let a = VtxWord0::read(word0);
+            put_three(7, a, VtxWord1Sem::read(word1), VtxWord2::read(word2), row);
+        }
     }
-    let a = formats::tex::read_word0(word0);
-    let b = formats::tex::read_word1(word1);
-    let c = formats::tex::read_word2(word2);
-    put(&tex_row(a, b, c), values);
-    // Once more, so that it is written last: the three forms then end differently, and the compiler does not join their ends, which would have
-    // each value wait on the stack (docs/MACHINE-CODE.md).
-    values[0] = 5;
-    Encoded::Done
 }
 
-// The values of a vertex fetch with a register's words, where there is room.
-pub(crate) fn write_vtx_gpr(word0: u32, word1: u32, word2: u32, values: &mut [u32]) -> Encoded
-    ensures value { result ≡ row_answer values.old }
-    ensures values_after { values.new ≡ fetch_after (decoded_from (found.VtxGpr word0 word1 word2)) values.old }
+// The words of the fetch that the row holds at `start`, which may be any number. Every other word stays, and a refusal writes nothing.
+pub fn encode_fetch_row(row: &Row, words: &mut [u32], start: Words) -> Result<(), EncodeError>
+    ensures value { result ≡ fetch_from row.now words.old start.0 }
+    ensures words_after { words.new ≡ fetch_words row.now words.old start.0 }
 {
-    let room = values.len();
-    if room < ROW {
-        return Encoded::NoRoom;
+    match row[0] {
+        5 => {
+            let taken = opcodes::fetch_taken(FetchKind::Texture, row[1]);
+            encode_three::<TexWord0, TexWord1, TexWord2>(taken, row, words, start)
+        }
+        6 => {
+            let taken = opcodes::fetch_taken(FetchKind::Vertex, row[1]);
+            let semantic = fetches::is_semantic(FetchKind::Vertex, row[1]);
+            encode_three::<VtxWord0, VtxWord1Gpr, VtxWord2>(taken & !semantic, row, words, start)
+        }
+        7 => {
+            let taken = opcodes::fetch_taken(FetchKind::Vertex, row[1]);
+            let semantic = fetches::is_semantic(FetchKind::Vertex, row[1]);
+            encode_three::<VtxWord0, VtxWord1Sem, VtxWord2>(taken & semantic, row, words, start)
+        }
+        _ => Err(EncodeError::NoRecord),
     }
-    let a = formats::vtx::read_word0(word0);
-    let b = formats::vtx::read_gpr(word1);
-    let c = formats::vtx::read_word2(word2);
-    put(&vtx_gpr_row(a, b, c), values);
-    Encoded::Done
 }
 
-// The values of a semantic one's words, where there is room.
-pub(crate) fn write_vtx_sem(word0: u32, word1: u32, word2: u32, values: &mut [u32]) -> Encoded
-    ensures value { result ≡ row_answer values.old }
-    ensures values_after { values.new ≡ fetch_after (decoded_from (found.VtxSem word0 word1 word2)) values.old }
+// Three words of a form that takes the row's number, or not. They are tested and written by themselves, each taken from the row where it stands: a
+// processor has too few registers to keep all values from the test to the words (docs/MACHINE-CODE.md).
+fn encode_three<A: Lift, B: Lift, C: Lift>(
+    taken: bool,
+    row: &Row,
+    words: &mut [u32],
+    start: Words,
+) -> Result<(), EncodeError>
+    requires { A.COUNT + B.COUNT + C.COUNT ≤ 31 }
+    ensures value { let a = A.at 1 row.now in let b = B.at (1 + A.COUNT) row.now in let c = C.at (1 + A.COUNT + B.COUNT) row.now in result ≡ write_answer (words_if (fits_table A.table (A.values a) && fits_table B.table (B.values b) && fits_table C.table (C.values c) && taken) (word_of A.table (A.values a)) (word_of B.table (B.values b)) (word_of C.table (C.values c))) words.old start }
+    ensures words_after { let a = A.at 1 row.now in let b = B.at (1 + A.COUNT) row.now in let c = C.at (1 + A.COUNT + B.COUNT) row.now in words.new ≡ write_words (words_if (fits_table A.table (A.values a) && fits_table B.table (B.values b) && fits_table C.table (C.values c) && taken) (word_of A.table (A.values a)) (word_of B.table (B.values b)) (word_of C.table (C.values c))) words.old start }
 {
-    let room = values.len();
-    if room < ROW {
-        return Encoded::NoRoom;
+    let second = 1 + A::COUNT;
+    let third = second + B::COUNT;
+    if !(taken && A::get(&row[1..]).fits() && B::get(&row[second..]).fits() && C::get(&row[third..]).fits()) {
+        return Err(EncodeError::NoRecord);
     }
-    let a = formats::vtx::read_word0(word0);
-    let b = formats::vtx::read_sem(word1);
-    let c = formats::vtx::read_word2(word2);
-    put(&vtx_sem_row(a, b, c), values);
-    Encoded::Done
-}
-
-fn tex_row(a: TexWord0, b: TexWord1, c: TexWord2) -> [u32; 30]
-    ensures { result ≡ tex_values a b c }
-{
-    [
-        5,
-        a.tex_inst,
-        a.bc_frac_mode,
-        a.reserved0_6,
-        a.fetch_whole_quad,
-        a.resource_id,
-        a.src_gpr,
-        a.src_rel,
-        a.alt_const,
-        a.reserved0_25,
-        b.dst_gpr,
-        b.dst_rel,
-        b.reserved1_8,
-        b.dst_sel_x,
-        b.dst_sel_y,
-        b.dst_sel_z,
-        b.dst_sel_w,
-        b.lod_bias,
-        b.coord_type_x,
-        b.coord_type_y,
-        b.coord_type_z,
-        b.coord_type_w,
-        c.offset_x,
-        c.offset_y,
-        c.offset_z,
-        c.sampler_id,
-        c.src_sel_x,
-        c.src_sel_y,
-        c.src_sel_z,
-        c.src_sel_w,
-    ]
-}
-
-fn vtx_gpr_row(a: VtxWord0, b: VtxWord1Gpr, c: VtxWord2) -> [u32; 27]
-    ensures { result ≡ vtx_gpr_values a b c }
-{
-    [
-        6,
-        a.vtx_inst,
-        a.fetch_type,
-        a.fetch_whole_quad,
-        a.buffer_id,
-        a.src_gpr,
-        a.src_rel,
-        a.src_sel_x,
-        a.mega_fetch_count,
-        b.dst_gpr,
-        b.dst_rel,
-        b.reserved1_8,
-        b.dst_sel_x,
-        b.dst_sel_y,
-        b.dst_sel_z,
-        b.dst_sel_w,
-        b.use_const_fields,
-        b.data_format,
-        b.num_format_all,
-        b.format_comp_all,
-        b.srf_mode_all,
-        c.offset,
-        c.endian_swap,
-        c.const_buf_no_stride,
-        c.mega_fetch,
-        c.alt_const,
-        c.reserved2_21,
-    ]
-}
-
-fn vtx_sem_row(a: VtxWord0, b: VtxWord1Sem, c: VtxWord2) -> [u32; 26]
-    ensures { result ≡ vtx_sem_values a b c }
-{
-    [
-        7,
-        a.vtx_inst,
-        a.fetch_type,
-        a.fetch_whole_quad,
-        a.buffer_id,
-        a.src_gpr,
-        a.src_rel,
-        a.src_sel_x,
-        a.mega_fetch_count,
-        b.semantic_id,
-        b.reserved1_8,
-        b.dst_sel_x,
-        b.dst_sel_y,
-        b.dst_sel_z,
-        b.dst_sel_w,
-        b.use_const_fields,
-        b.data_format,
-        b.num_format_all,
-        b.format_comp_all,
-        b.srf_mode_all,
-        c.offset,
-        c.endian_swap,
-        c.const_buf_no_stride,
-        c.mega_fetch,
-        c.alt_const,
-        c.reserved2_21,
-    ]
+    if words.len() < start.0 || words.len() - start.0 < 4 {
+        return Err(EncodeError::NoRoom);
+    }
+    // The fourth goes first: behind a write to the words the values are read anew.
+    words[start.0 + 3] = 0;
+    words[start.0] = A::get(&row[1..]).lift();
+    words[start.0 + 1] = B::get(&row[second..]).lift();
+    words[start.0 + 2] = C::get(&row[third..]).lift();
+    Ok(())
 }

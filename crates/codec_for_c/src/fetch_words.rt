@@ -1,205 +1,397 @@
-// The four words of the fetch that values hold, written where there is room.
-//
-// Each form tests its values and writes its words by itself, and takes each value from the row where it puts it: a processor has too few registers
-// to keep them all from the test to the words (docs/MACHINE-CODE.md).
-ghost use Rattle.std.specs.Prelude.{◌≡◌, true, ◌+◌, ◌≤◌, length};
-ghost use Rattle.units.specs.Units.{words};
-ghost use Rattle.bits.specs.Tables.{word_of, fits_table};
+// The words of fetches as values of a row.
 ghost use Rattle.formats.specs.Tex as tex;
 ghost use Rattle.formats.specs.Vtx as vtx;
-ghost use Rattle.fetch_codec.specs.Buffer.{encode_answer, encode_words};
-ghost use Rattle.codec_for_c.specs.Values.{row_length};
-ghost use Rattle.codec_for_c.specs.FetchValues.{fetch_in, tex_in, vtx_gpr_in, vtx_sem_in};
+ghost use Rattle.codec_for_c.specs.InRow.{tex_word0_in_row, tex_word1_in_row, tex_word2_in_row, vtx_word0_in_row, vtx_gpr_in_row, vtx_sem_in_row, vtx_word2_in_row};
 
-use crate::fetch_records;
+use crate::in_row::{InRow, Lift};
 use bits::lift;
 use formats::fields;
-use microcode::Encoded;
+use formats::tex::{TexWord0, TexWord1, TexWord2};
+use formats::vtx::{VtxWord0, VtxWord1Gpr, VtxWord1Sem, VtxWord2};
 
-// By the form in element 0; a vertex fetch with a semantic id for any that the others are not.
-pub(crate) fn write(values: &[u32], part: &mut [u32]) -> Encoded
-    requires { row_length ≤ length values.now }
-    ensures value { result ≡ encode_answer (fetch_in values.now) part.old (words 0) }
-    ensures part_after { part.new ≡ encode_words (fetch_in values.now) part.old (words 0) }
-{
-    let form = values[0];
-    if form == 5 {
-        return write_tex(values, part);
+impl InRow for TexWord0 {
+    const COUNT: usize = 9;
+
+    ghost COUNT = { 9 };
+
+    ghost row_values = { tex.word0_values };
+
+    ghost at = { tex.word0_at };
+
+    fn get(values: &[u32]) -> TexWord0 {
+        TexWord0 {
+            tex_inst: values[0],
+            bc_frac_mode: values[1],
+            reserved0_6: values[2],
+            fetch_whole_quad: values[3],
+            resource_id: values[4],
+            src_gpr: values[5],
+            src_rel: values[6],
+            alt_const: values[7],
+            reserved0_25: values[8],
+        }
     }
-    if form == 6 {
-        return write_vtx_gpr(values, part);
+
+    fn put(self, values: &mut [u32]) {
+        values[..9].copy_from_slice(&[
+            self.tex_inst,
+            self.bc_frac_mode,
+            self.reserved0_6,
+            self.fetch_whole_quad,
+            self.resource_id,
+            self.src_gpr,
+            self.src_rel,
+            self.alt_const,
+            self.reserved0_25,
+        ]);
     }
-    write_vtx_sem(values, part)
+
+    ghost laws = { tex_word0_in_row };
 }
 
-// The fourth word goes first: behind a write to the words the values are read anew.
-fn write_tex(values: &[u32], part: &mut [u32]) -> Encoded
-    requires { row_length ≤ length values.now }
-    ensures value { result ≡ encode_answer (tex_in values.now) part.old (words 0) }
-    ensures part_after { part.new ≡ encode_words (tex_in values.now) part.old (words 0) }
-{
-    if !fetch_records::is_tex(values) {
-        return Encoded::NoRecord;
+impl Lift for TexWord0 {
+    fn lift(self) -> u32 {
+        lift(self.tex_inst, fields::FETCH_INST)
+            | lift(self.bc_frac_mode, fields::BC_FRAC_MODE)
+            | lift(self.reserved0_6, fields::RESERVED0_6)
+            | lift(self.fetch_whole_quad, fields::FETCH_WHOLE_QUAD)
+            | lift(self.resource_id, fields::RESOURCE_ID)
+            | lift(self.src_gpr, fields::FETCH_SRC_GPR)
+            | lift(self.src_rel, fields::FETCH_SRC_REL)
+            | lift(self.alt_const, fields::TEX_ALT_CONST)
+            | lift(self.reserved0_25, fields::RESERVED0_25)
     }
-    if part.len() < 4 {
-        return Encoded::NoRoom;
+}
+
+impl InRow for TexWord1 {
+    const COUNT: usize = 12;
+
+    ghost COUNT = { 12 };
+
+    ghost row_values = { tex.word1_values };
+
+    ghost at = { tex.word1_at };
+
+    fn get(values: &[u32]) -> TexWord1 {
+        TexWord1 {
+            dst_gpr: values[0],
+            dst_rel: values[1],
+            reserved1_8: values[2],
+            dst_sel_x: values[3],
+            dst_sel_y: values[4],
+            dst_sel_z: values[5],
+            dst_sel_w: values[6],
+            lod_bias: values[7],
+            coord_type_x: values[8],
+            coord_type_y: values[9],
+            coord_type_z: values[10],
+            coord_type_w: values[11],
+        }
     }
-    part[3] = 0;
-    part[0] = tex_word0(values);
-    part[1] = tex_word1(values);
-    part[2] = tex_word2(values);
-    Encoded::Done
-}
 
-fn write_vtx_gpr(values: &[u32], part: &mut [u32]) -> Encoded
-    requires { row_length ≤ length values.now }
-    ensures value { result ≡ encode_answer (vtx_gpr_in values.now) part.old (words 0) }
-    ensures part_after { part.new ≡ encode_words (vtx_gpr_in values.now) part.old (words 0) }
-{
-    if !fetch_records::is_vtx_gpr(values) {
-        return Encoded::NoRecord;
+    fn put(self, values: &mut [u32]) {
+        values[..12].copy_from_slice(&[
+            self.dst_gpr,
+            self.dst_rel,
+            self.reserved1_8,
+            self.dst_sel_x,
+            self.dst_sel_y,
+            self.dst_sel_z,
+            self.dst_sel_w,
+            self.lod_bias,
+            self.coord_type_x,
+            self.coord_type_y,
+            self.coord_type_z,
+            self.coord_type_w,
+        ]);
     }
-    if part.len() < 4 {
-        return Encoded::NoRoom;
+
+    ghost laws = { tex_word1_in_row };
+}
+
+impl Lift for TexWord1 {
+    fn lift(self) -> u32 {
+        lift(self.dst_gpr, fields::FETCH_DST_GPR)
+            | lift(self.dst_rel, fields::FETCH_DST_REL)
+            | lift(self.reserved1_8, fields::RESERVED1_8)
+            | lift(self.dst_sel_x, fields::DST_SEL_X)
+            | lift(self.dst_sel_y, fields::DST_SEL_Y)
+            | lift(self.dst_sel_z, fields::DST_SEL_Z)
+            | lift(self.dst_sel_w, fields::DST_SEL_W)
+            | lift(self.lod_bias, fields::LOD_BIAS)
+            | lift(self.coord_type_x, fields::COORD_TYPE_X)
+            | lift(self.coord_type_y, fields::COORD_TYPE_Y)
+            | lift(self.coord_type_z, fields::COORD_TYPE_Z)
+            | lift(self.coord_type_w, fields::COORD_TYPE_W)
     }
-    part[3] = 0;
-    part[0] = vtx_word0(values);
-    part[1] = vtx_gpr(values);
-    part[2] = vtx_word2(values, 21);
-    Encoded::Done
 }
 
-fn write_vtx_sem(values: &[u32], part: &mut [u32]) -> Encoded
-    requires { row_length ≤ length values.now }
-    ensures value { result ≡ encode_answer (vtx_sem_in values.now) part.old (words 0) }
-    ensures part_after { part.new ≡ encode_words (vtx_sem_in values.now) part.old (words 0) }
-{
-    if !fetch_records::is_vtx_sem(values) {
-        return Encoded::NoRecord;
+impl InRow for TexWord2 {
+    const COUNT: usize = 8;
+
+    ghost COUNT = { 8 };
+
+    ghost row_values = { tex.word2_values };
+
+    ghost at = { tex.word2_at };
+
+    fn get(values: &[u32]) -> TexWord2 {
+        TexWord2 {
+            offset_x: values[0],
+            offset_y: values[1],
+            offset_z: values[2],
+            sampler_id: values[3],
+            src_sel_x: values[4],
+            src_sel_y: values[5],
+            src_sel_z: values[6],
+            src_sel_w: values[7],
+        }
     }
-    if part.len() < 4 {
-        return Encoded::NoRoom;
+
+    fn put(self, values: &mut [u32]) {
+        values[..8].copy_from_slice(&[
+            self.offset_x,
+            self.offset_y,
+            self.offset_z,
+            self.sampler_id,
+            self.src_sel_x,
+            self.src_sel_y,
+            self.src_sel_z,
+            self.src_sel_w,
+        ]);
     }
-    part[3] = 0;
-    part[0] = vtx_word0(values);
-    part[1] = vtx_sem(values);
-    part[2] = vtx_word2(values, 20);
-    Encoded::Done
+
+    ghost laws = { tex_word2_in_row };
 }
 
-// The words, of values that are within their widths.
-fn tex_word0(values: &[u32]) -> u32
-    requires row_length_in_bounds { row_length ≤ length values.now }
-    requires values_value { fits_table tex.word0_table (tex.word0_values (tex.word0_at 1 values.now)) ≡ true }
-    ensures { result ≡ word_of tex.word0_table (tex.word0_values (tex.word0_at 1 values.now)) }
-{
-    lift(values[1], fields::FETCH_INST)
-        | lift(values[2], fields::BC_FRAC_MODE)
-        | lift(values[3], fields::RESERVED0_6)
-        | lift(values[4], fields::FETCH_WHOLE_QUAD)
-        | lift(values[5], fields::RESOURCE_ID)
-        | lift(values[6], fields::FETCH_SRC_GPR)
-        | lift(values[7], fields::FETCH_SRC_REL)
-        | lift(values[8], fields::TEX_ALT_CONST)
-        | lift(values[9], fields::RESERVED0_25)
+impl Lift for TexWord2 {
+    fn lift(self) -> u32 {
+        lift(self.offset_x, fields::OFFSET_X)
+            | lift(self.offset_y, fields::OFFSET_Y)
+            | lift(self.offset_z, fields::OFFSET_Z)
+            | lift(self.sampler_id, fields::SAMPLER_ID)
+            | lift(self.src_sel_x, fields::TEX_SRC_SEL_X)
+            | lift(self.src_sel_y, fields::SRC_SEL_Y)
+            | lift(self.src_sel_z, fields::SRC_SEL_Z)
+            | lift(self.src_sel_w, fields::SRC_SEL_W)
+    }
 }
 
-fn tex_word1(values: &[u32]) -> u32
-    requires row_length_in_bounds { row_length ≤ length values.now }
-    requires values_value { fits_table tex.word1_table (tex.word1_values (tex.word1_at 10 values.now)) ≡ true }
-    ensures { result ≡ word_of tex.word1_table (tex.word1_values (tex.word1_at 10 values.now)) }
-{
-    lift(values[10], fields::FETCH_DST_GPR)
-        | lift(values[11], fields::FETCH_DST_REL)
-        | lift(values[12], fields::RESERVED1_8)
-        | lift(values[13], fields::DST_SEL_X)
-        | lift(values[14], fields::DST_SEL_Y)
-        | lift(values[15], fields::DST_SEL_Z)
-        | lift(values[16], fields::DST_SEL_W)
-        | lift(values[17], fields::LOD_BIAS)
-        | lift(values[18], fields::COORD_TYPE_X)
-        | lift(values[19], fields::COORD_TYPE_Y)
-        | lift(values[20], fields::COORD_TYPE_Z)
-        | lift(values[21], fields::COORD_TYPE_W)
+impl InRow for VtxWord0 {
+    const COUNT: usize = 8;
+
+    ghost COUNT = { 8 };
+
+    ghost row_values = { vtx.word0_values };
+
+    ghost at = { vtx.word0_at };
+
+    fn get(values: &[u32]) -> VtxWord0 {
+        VtxWord0 {
+            vtx_inst: values[0],
+            fetch_type: values[1],
+            fetch_whole_quad: values[2],
+            buffer_id: values[3],
+            src_gpr: values[4],
+            src_rel: values[5],
+            src_sel_x: values[6],
+            mega_fetch_count: values[7],
+        }
+    }
+
+    fn put(self, values: &mut [u32]) {
+        values[..8].copy_from_slice(&[
+            self.vtx_inst,
+            self.fetch_type,
+            self.fetch_whole_quad,
+            self.buffer_id,
+            self.src_gpr,
+            self.src_rel,
+            self.src_sel_x,
+            self.mega_fetch_count,
+        ]);
+    }
+
+    ghost laws = { vtx_word0_in_row };
 }
 
-fn tex_word2(values: &[u32]) -> u32
-    requires row_length_in_bounds { row_length ≤ length values.now }
-    requires values_value { fits_table tex.word2_table (tex.word2_values (tex.word2_at 22 values.now)) ≡ true }
-    ensures { result ≡ word_of tex.word2_table (tex.word2_values (tex.word2_at 22 values.now)) }
-{
-    lift(values[22], fields::OFFSET_X)
-        | lift(values[23], fields::OFFSET_Y)
-        | lift(values[24], fields::OFFSET_Z)
-        | lift(values[25], fields::SAMPLER_ID)
-        | lift(values[26], fields::TEX_SRC_SEL_X)
-        | lift(values[27], fields::SRC_SEL_Y)
-        | lift(values[28], fields::SRC_SEL_Z)
-        | lift(values[29], fields::SRC_SEL_W)
+impl Lift for VtxWord0 {
+    fn lift(self) -> u32 {
+        lift(self.vtx_inst, fields::FETCH_INST)
+            | lift(self.fetch_type, fields::FETCH_TYPE)
+            | lift(self.fetch_whole_quad, fields::FETCH_WHOLE_QUAD)
+            | lift(self.buffer_id, fields::BUFFER_ID)
+            | lift(self.src_gpr, fields::FETCH_SRC_GPR)
+            | lift(self.src_rel, fields::FETCH_SRC_REL)
+            | lift(self.src_sel_x, fields::VTX_SRC_SEL_X)
+            | lift(self.mega_fetch_count, fields::MEGA_FETCH_COUNT)
+    }
 }
 
-fn vtx_word0(values: &[u32]) -> u32
-    requires row_length_in_bounds { row_length ≤ length values.now }
-    requires values_value { fits_table vtx.word0_table (vtx.word0_values (vtx.word0_at 1 values.now)) ≡ true }
-    ensures { result ≡ word_of vtx.word0_table (vtx.word0_values (vtx.word0_at 1 values.now)) }
-{
-    lift(values[1], fields::FETCH_INST)
-        | lift(values[2], fields::FETCH_TYPE)
-        | lift(values[3], fields::FETCH_WHOLE_QUAD)
-        | lift(values[4], fields::BUFFER_ID)
-        | lift(values[5], fields::FETCH_SRC_GPR)
-        | lift(values[6], fields::FETCH_SRC_REL)
-        | lift(values[7], fields::VTX_SRC_SEL_X)
-        | lift(values[8], fields::MEGA_FETCH_COUNT)
+impl InRow for VtxWord1Gpr {
+    const COUNT: usize = 12;
+
+    ghost COUNT = { 12 };
+
+    ghost row_values = { vtx.gpr_values };
+
+    ghost at = { vtx.gpr_at };
+
+    fn get(values: &[u32]) -> VtxWord1Gpr {
+        VtxWord1Gpr {
+            dst_gpr: values[0],
+            dst_rel: values[1],
+            reserved1_8: values[2],
+            dst_sel_x: values[3],
+            dst_sel_y: values[4],
+            dst_sel_z: values[5],
+            dst_sel_w: values[6],
+            use_const_fields: values[7],
+            data_format: values[8],
+            num_format_all: values[9],
+            format_comp_all: values[10],
+            srf_mode_all: values[11],
+        }
+    }
+
+    fn put(self, values: &mut [u32]) {
+        values[..12].copy_from_slice(&[
+            self.dst_gpr,
+            self.dst_rel,
+            self.reserved1_8,
+            self.dst_sel_x,
+            self.dst_sel_y,
+            self.dst_sel_z,
+            self.dst_sel_w,
+            self.use_const_fields,
+            self.data_format,
+            self.num_format_all,
+            self.format_comp_all,
+            self.srf_mode_all,
+        ]);
+    }
+
+    ghost laws = { vtx_gpr_in_row };
 }
 
-fn vtx_gpr(values: &[u32]) -> u32
-    requires row_length_in_bounds { row_length ≤ length values.now }
-    requires values_value { fits_table vtx.gpr_table (vtx.gpr_values (vtx.gpr_at 9 values.now)) ≡ true }
-    ensures { result ≡ word_of vtx.gpr_table (vtx.gpr_values (vtx.gpr_at 9 values.now)) }
-{
-    lift(values[9], fields::FETCH_DST_GPR)
-        | lift(values[10], fields::FETCH_DST_REL)
-        | lift(values[11], fields::RESERVED1_8)
-        | lift(values[12], fields::DST_SEL_X)
-        | lift(values[13], fields::DST_SEL_Y)
-        | lift(values[14], fields::DST_SEL_Z)
-        | lift(values[15], fields::DST_SEL_W)
-        | lift(values[16], fields::USE_CONST_FIELDS)
-        | lift(values[17], fields::DATA_FORMAT)
-        | lift(values[18], fields::NUM_FORMAT_ALL)
-        | lift(values[19], fields::FORMAT_COMP_ALL)
-        | lift(values[20], fields::SRF_MODE_ALL)
+impl Lift for VtxWord1Gpr {
+    fn lift(self) -> u32 {
+        lift(self.dst_gpr, fields::FETCH_DST_GPR)
+            | lift(self.dst_rel, fields::FETCH_DST_REL)
+            | lift(self.reserved1_8, fields::RESERVED1_8)
+            | lift(self.dst_sel_x, fields::DST_SEL_X)
+            | lift(self.dst_sel_y, fields::DST_SEL_Y)
+            | lift(self.dst_sel_z, fields::DST_SEL_Z)
+            | lift(self.dst_sel_w, fields::DST_SEL_W)
+            | lift(self.use_const_fields, fields::USE_CONST_FIELDS)
+            | lift(self.data_format, fields::DATA_FORMAT)
+            | lift(self.num_format_all, fields::NUM_FORMAT_ALL)
+            | lift(self.format_comp_all, fields::FORMAT_COMP_ALL)
+            | lift(self.srf_mode_all, fields::SRF_MODE_ALL)
+    }
 }
 
-fn vtx_sem(values: &[u32]) -> u32
-    requires row_length_in_bounds { row_length ≤ length values.now }
-    requires values_value { fits_table vtx.sem_table (vtx.sem_values (vtx.sem_at 9 values.now)) ≡ true }
-    ensures { result ≡ word_of vtx.sem_table (vtx.sem_values (vtx.sem_at 9 values.now)) }
-{
-    lift(values[9], fields::SEMANTIC_ID)
-        | lift(values[10], fields::RESERVED1_8)
-        | lift(values[11], fields::DST_SEL_X)
-        | lift(values[12], fields::DST_SEL_Y)
-        | lift(values[13], fields::DST_SEL_Z)
-        | lift(values[14], fields::DST_SEL_W)
-        | lift(values[15], fields::USE_CONST_FIELDS)
-        | lift(values[16], fields::DATA_FORMAT)
-        | lift(values[17], fields::NUM_FORMAT_ALL)
-        | lift(values[18], fields::FORMAT_COMP_ALL)
-        | lift(values[19], fields::SRF_MODE_ALL)
+impl InRow for VtxWord1Sem {
+    const COUNT: usize = 11;
+
+    ghost COUNT = { 11 };
+
+    ghost row_values = { vtx.sem_values };
+
+    ghost at = { vtx.sem_at };
+
+    fn get(values: &[u32]) -> VtxWord1Sem {
+        VtxWord1Sem {
+            semantic_id: values[0],
+            reserved1_8: values[1],
+            dst_sel_x: values[2],
+            dst_sel_y: values[3],
+            dst_sel_z: values[4],
+            dst_sel_w: values[5],
+            use_const_fields: values[6],
+            data_format: values[7],
+            num_format_all: values[8],
+            format_comp_all: values[9],
+            srf_mode_all: values[10],
+        }
+    }
+
+    fn put(self, values: &mut [u32]) {
+        values[..11].copy_from_slice(&[
+            self.semantic_id,
+            self.reserved1_8,
+            self.dst_sel_x,
+            self.dst_sel_y,
+            self.dst_sel_z,
+            self.dst_sel_w,
+            self.use_const_fields,
+            self.data_format,
+            self.num_format_all,
+            self.format_comp_all,
+            self.srf_mode_all,
+        ]);
+    }
+
+    ghost laws = { vtx_sem_in_row };
 }
 
-// Behind either form of word 1.
-fn vtx_word2(values: &[u32], at: usize) -> u32
-    requires at_in_bounds { at + 6 ≤ length values.now }
-    requires values_value { fits_table vtx.word2_table (vtx.word2_values (vtx.word2_at at values.now)) ≡ true }
-    ensures { result ≡ word_of vtx.word2_table (vtx.word2_values (vtx.word2_at at values.now)) }
-{
-    lift(values[at + 0], fields::OFFSET)
-        | lift(values[at + 1], fields::ENDIAN_SWAP)
-        | lift(values[at + 2], fields::CONST_BUF_NO_STRIDE)
-        | lift(values[at + 3], fields::MEGA_FETCH)
-        | lift(values[at + 4], fields::VTX_ALT_CONST)
-        | lift(values[at + 5], fields::RESERVED2_21)
+impl Lift for VtxWord1Sem {
+    fn lift(self) -> u32 {
+        lift(self.semantic_id, fields::SEMANTIC_ID)
+            | lift(self.reserved1_8, fields::RESERVED1_8)
+            | lift(self.dst_sel_x, fields::DST_SEL_X)
+            | lift(self.dst_sel_y, fields::DST_SEL_Y)
+            | lift(self.dst_sel_z, fields::DST_SEL_Z)
+            | lift(self.dst_sel_w, fields::DST_SEL_W)
+            | lift(self.use_const_fields, fields::USE_CONST_FIELDS)
+            | lift(self.data_format, fields::DATA_FORMAT)
+            | lift(self.num_format_all, fields::NUM_FORMAT_ALL)
+            | lift(self.format_comp_all, fields::FORMAT_COMP_ALL)
+            | lift(self.srf_mode_all, fields::SRF_MODE_ALL)
+    }
+}
+
+impl InRow for VtxWord2 {
+    const COUNT: usize = 6;
+
+    ghost COUNT = { 6 };
+
+    ghost row_values = { vtx.word2_values };
+
+    ghost at = { vtx.word2_at };
+
+    fn get(values: &[u32]) -> VtxWord2 {
+        VtxWord2 {
+            offset: values[0],
+            endian_swap: values[1],
+            const_buf_no_stride: values[2],
+            mega_fetch: values[3],
+            alt_const: values[4],
+            reserved2_21: values[5],
+        }
+    }
+
+    fn put(self, values: &mut [u32]) {
+        values[..6].copy_from_slice(&[
+            self.offset,
+            self.endian_swap,
+            self.const_buf_no_stride,
+            self.mega_fetch,
+            self.alt_const,
+            self.reserved2_21,
+        ]);
+    }
+
+    ghost laws = { vtx_word2_in_row };
+}
+
+impl Lift for VtxWord2 {
+    fn lift(self) -> u32 {
+        lift(self.offset, fields::OFFSET)
+            | lift(self.endian_swap, fields::ENDIAN_SWAP)
+            | lift(self.const_buf_no_stride, fields::CONST_BUF_NO_STRIDE)
+            | lift(self.mega_fetch, fields::MEGA_FETCH)
+            | lift(self.alt_const, fields::VTX_ALT_CONST)
+            | lift(self.reserved2_21, fields::RESERVED2_21)
+    }
 }
