@@ -4,16 +4,14 @@ use mathlib.Core.List.{[], ◌∷◌}
 use Prim.Native.Nat.{◌-◌, ◌^◌}
 use Rattle.units.specs.Units.{quadwords, slots}
 use Rattle.checks.specs.declared.Place.TheVariants.{Line, Quadword}
-use Rattle.checks.specs.declared.Verdict.{Verdict}
-use Rattle.checks.specs.declared.Verdict.TheVariants.{Accepted, Refused}
-use Rattle.checks.specs.declared.AtFault.TheVariants.{NoNumber, Number}
-use Rattle.report.specs.declared.ReportBuild.TheVariants.{Production, Debug}
-use Rattle.report.specs.declared.Written.TheVariants.{Length, TooSmall}
+use Rattle.std.specs.Prelude.{Some, None}
+use Rattle.checks.specs.Verdict.{Verdict, Accepted, Refused}
+use Rattle.card.specs.declared.Build.TheVariants.{Production, Debug}
 use Rattle.ascii.specs.Ascii.{ascii}
 use Rattle.ascii.specs.Decimal.{decimal, decimal_within}
 use Rattle.report.specs.Report.{report_lines, report_bytes}
 use Rattle.report.specs.Explanation.{rule_word, explanation_lines, explanation_bytes}
-use Rattle.report.specs.Buffer.{written_of, buffer_after}
+use Rattle.report.specs.Buffer.{Length, NoRoom, written_of, buffer_after}
 
 -- a text's bytes
 bytes_of_a_line : ascii "slot=0\n" ≡ 115 ∷ 108 ∷ 111 ∷ 116 ∷ 61 ∷ 48 ∷ 10 ∷ []
@@ -44,11 +42,11 @@ largest_of_64_bits = refl
 -- ---- reports
 
 -- document 01's, for the accepted copy pack
-accepted_production : report_bytes Production Accepted ≡ ascii "build=production\nverdict=0\nplace=0\nslot=0\nrelease=yes\n"
+accepted_production : report_bytes (Some Production) Accepted ≡ ascii "build=production\nverdict=0\nplace=0\nslot=0\nrelease=yes\n"
 unfolding report_bytes report_lines decimal decimal_within
 accepted_production = refl
 
-accepted_debug : report_bytes Debug Accepted ≡ ascii "build=debug\nverdict=0\nplace=0\nslot=0\nrelease=no\n"
+accepted_debug : report_bytes (Some Debug) Accepted ≡ ascii "build=debug\nverdict=0\nplace=0\nslot=0\nrelease=no\n"
 unfolding report_bytes report_lines decimal decimal_within
 accepted_debug = refl
 
@@ -56,28 +54,28 @@ accepted_debug = refl
 abbrev not_granted : Verdict
 not_granted = Refused 15 (Quadword (quadwords 40)) (slots 3)
 
-refused_debug : report_bytes Debug not_granted ≡ ascii "build=debug\nverdict=15\nplace=40\nslot=3\nrelease=no\n"
+refused_debug : report_bytes (Some Debug) not_granted ≡ ascii "build=debug\nverdict=15\nplace=40\nslot=3\nrelease=no\n"
 unfolding report_bytes report_lines decimal decimal_within
 refused_debug = refl
 
 -- line 7 of the card is at fault: the build is not shown, though line 2 was good
-card_line : report_bytes Production (Refused 1 (Line 7) (slots 0)) ≡ ascii "build=unknown\nverdict=1\nplace=7\nslot=0\nrelease=no\n"
+card_line : report_bytes (Some Production) (Refused 1 (Line 7) (slots 0)) ≡ ascii "build=unknown\nverdict=1\nplace=7\nslot=0\nrelease=no\n"
 unfolding report_bytes report_lines decimal decimal_within
 card_line = refl
 
 -- ---- explanations
 
 -- register 12 where the card grants 8
-a_register_too_high : explanation_bytes (record { verdict = not_granted; fault = Number 12 8 }) ≡ ascii "verdict=15\nplace=40\nslot=3\nrule=not-granted\nfound=12\nlimit=8\n"
+a_register_too_high : explanation_bytes (record { verdict = not_granted; fault = Some (record { found = 12; limit = 8 }) }) ≡ ascii "verdict=15\nplace=40\nslot=3\nrule=not-granted\nfound=12\nlimit=8\n"
 unfolding explanation_bytes explanation_lines rule_word decimal decimal_within
 a_register_too_high = refl
 
-without_numbers : explanation_bytes (record { verdict = Refused 1 (Line 7) (slots 0); fault = NoNumber }) ≡ ascii "verdict=1\nplace=7\nslot=0\nrule=card-line\nfound=-\nlimit=-\n"
+without_numbers : explanation_bytes (record { verdict = Refused 1 (Line 7) (slots 0); fault = None }) ≡ ascii "verdict=1\nplace=7\nslot=0\nrule=card-line\nfound=-\nlimit=-\n"
 unfolding explanation_bytes explanation_lines rule_word decimal decimal_within
 without_numbers = refl
 
 -- quadword 2 opens a clause at an odd quadword, or one that shares a part of an earlier one
-clause_layout : explanation_bytes (record { verdict = Refused 22 (Quadword (quadwords 2)) (slots 0); fault = NoNumber }) ≡ ascii "verdict=22\nplace=2\nslot=0\nrule=clause-layout\nfound=-\nlimit=-\n"
+clause_layout : explanation_bytes (record { verdict = Refused 22 (Quadword (quadwords 2)) (slots 0); fault = None }) ≡ ascii "verdict=22\nplace=2\nslot=0\nrule=clause-layout\nfound=-\nlimit=-\n"
 unfolding explanation_bytes explanation_lines rule_word decimal decimal_within
 clause_layout = refl
 
@@ -86,7 +84,7 @@ numbers_without_a_word : (rule_word 0 ≡ "unknown") × (rule_word 20 ≡ "unkno
 unfolding rule_word
 numbers_without_a_word = (refl, refl, refl, refl)
 
-accepted_in_one_line : explanation_bytes (record { verdict = Accepted; fault = NoNumber }) ≡ ascii "verdict=0\n"
+accepted_in_one_line : explanation_bytes (record { verdict = Accepted; fault = None }) ≡ ascii "verdict=0\n"
 unfolding explanation_bytes explanation_lines decimal decimal_within
 accepted_in_one_line = refl
 
@@ -100,6 +98,6 @@ just_enough : (written_of (ascii "slot=0\n") (ascii "1234567") ≡ Length 7) × 
 unfolding written_of buffer_after
 just_enough = (refl, refl)
 
-one_too_few : (written_of (ascii "slot=0\n") (ascii "123456") ≡ TooSmall) × (buffer_after (ascii "slot=0\n") (ascii "123456") ≡ ascii "123456")
+one_too_few : (written_of (ascii "slot=0\n") (ascii "123456") ≡ NoRoom) × (buffer_after (ascii "slot=0\n") (ascii "123456") ≡ ascii "123456")
 unfolding written_of buffer_after
 one_too_few = (refl, refl)

@@ -1,5 +1,5 @@
 -- Bytes put into a buffer one run behind the other: two runs in a row are one, and a run from the start is the buffer that the
--- contract of `put_whole` gives. Assumes nothing.
+-- contracts of the writers give. Assumes nothing.
 use mathlib.Core.Path.{◌≡◌, refl, sym, ap, ap₂, subst, ◌∙◌}
 use mathlib.Core.Bool.{Bool, true, false, cond}
 use mathlib.Core.List.{List, [], ◌++◌, append-nil, append_assoc}
@@ -11,9 +11,7 @@ use borrow.Author.Tests.{le-leb, lt-leb, leb-true}
 use lib.ListN.{length, get_or, take, drop, set, length-append, length-take, length-set, take-append-drop}
 use lib.Seq.{take_all, drop-drop, paste, paste-zero, paste-suc, take-paste, drop-paste}
 use Rattle.laws.proofs.OfCases.{impossible}
-use Rattle.report.specs.declared.Written.{Written}
-use Rattle.report.specs.declared.Written.TheVariants.{Length, TooSmall}
-use Rattle.report.specs.Buffer.{room, written_of, buffer_after}
+use Rattle.report.specs.Buffer.{Written, Length, NoRoom, room, written_of, buffer_after}
 use Rattle.report.specs.Code.{Appended}
 
 -- nothing put
@@ -37,38 +35,6 @@ both_appended {at} {middle} {end} {xs} {ys} {a} {b} {c} f s =
 pub as_bytes : {at end : ℕ} {xs ys earlier later : List ℕ} → xs ≡ ys → Appended at xs earlier later end → Appended at ys earlier later end
 as_bytes {at} {end} {xs} {ys} {earlier} {later} e a = subst (λ (l : List ℕ). Appended at l earlier later end) e a
 
--- ---- a run byte by byte, as a loop puts it
-
--- the first i bytes are put
-pub record Pasted (buffer : List ℕ) (at : ℕ) (bytes later : List ℕ) (i : ℕ) : Type 0 where
-  pub within : i ≤ length bytes
-  pub so_far : later ≡ paste buffer at bytes i
-  pub same_length : length later ≡ length buffer
-
-pub none_pasted : (buffer : List ℕ) (at : ℕ) (bytes : List ℕ) → Pasted buffer at bytes buffer 0
-none_pasted buffer at bytes =
-    record { within = omega arith; so_far = paste-zero buffer at bytes; same_length = refl }
-
-pub one_more_pasted : {buffer : List ℕ} {at : ℕ} {bytes later : List ℕ} {i : ℕ} → Pasted buffer at bytes later i → at + length bytes ≤ length buffer → i < length bytes → Pasted buffer at bytes (set later (at + i) (get_or bytes i 0)) (i + 1)
-one_more_pasted {buffer} {at} {bytes} {later} {i} p h l =
-    record {
-      within = omega arith;
-      so_far = rw (p.so_far, add-one) (paste-suc buffer at bytes i 0 (omega arith) l);
-      same_length = length-set later (at + i) (get_or bytes i 0) ∙ p.same_length;
-    }
-
-pub all_pasted : {buffer : List ℕ} {at : ℕ} {bytes later : List ℕ} {i : ℕ} → Pasted buffer at bytes later i → at + length bytes ≤ length buffer → length bytes ≤ i → Appended at bytes buffer later (at + length bytes)
-all_pasted {buffer} {at} {bytes} {later} {i} p h l =
-    let all : i ≡ length bytes = omega arith in
-    rw (p.so_far, all)
-    (record {
-      ends = refl;
-      written =
-          take-paste buffer at bytes (length bytes) (omega arith) (omega arith)
-          ∙ ap (λ (l : List ℕ). take at buffer ++ l) (take_all (length bytes) bytes (omega arith));
-      kept = drop-paste buffer at bytes (length bytes) (omega arith) (omega arith);
-    })
-
 -- ---- the whole
 
 -- a run from the start lies in the buffer
@@ -89,7 +55,7 @@ pub whole_length : (bytes buffer : List ℕ) (end : ℕ) → end ≡ length byte
 unfolding written_of
 whole_length bytes buffer end e h = rw (le-leb (length bytes) (length buffer) h) (ap Length e)
 
-pub no_room_answer : (bytes buffer : List ℕ) → length buffer < length bytes → TooSmall ≡ written_of bytes buffer
+pub no_room_answer : (bytes buffer : List ℕ) → length buffer < length bytes → NoRoom ≡ written_of bytes buffer
 unfolding written_of
 no_room_answer bytes buffer h = rw (lt-leb (length bytes) (length buffer) h)
 
@@ -97,17 +63,12 @@ pub no_room_buffer : (bytes buffer : List ℕ) → length buffer < length bytes 
 unfolding buffer_after
 no_room_buffer bytes buffer h = rw (lt-leb (length bytes) (length buffer) h)
 
--- what is answered and left in the buffer for bytes by another name
-pub put_as_made : {xs ys : List ℕ} (buffer : List ℕ) {later : List ℕ} {answer : Written} → xs ≡ ys → (answer ≡ written_of xs buffer) × (later ≡ buffer_after xs buffer) → (answer ≡ written_of ys buffer) × (later ≡ buffer_after ys buffer)
-put_as_made buffer {later} {answer} e p =
-    subst (λ (l : List ℕ). (answer ≡ written_of l buffer) × (later ≡ buffer_after l buffer)) e p
-
 -- what a caller learns from the answer: so many bytes of its buffer are the report
 pub written_within : (bytes buffer : List ℕ) (n : ℕ) → Length n ≡ written_of bytes buffer → n ≤ length buffer
 unfolding written_of
 written_within bytes buffer n e = by (room bytes buffer) refl e
   where
-    by : (t : Bool) → room bytes buffer ≡ t → Length n ≡ cond t (Length (length bytes)) TooSmall → n ≤ length buffer
+    by : (t : Bool) → room bytes buffer ≡ t → Length n ≡ cond t (Length (length bytes)) NoRoom → n ≤ length buffer
     by true h e =
         let same : n ≡ length bytes = cc in
         omega (arith, leb-true (length bytes) (length buffer) h)

@@ -71,7 +71,3 @@ all_spelt {n} {buffer} {digits} {first} {rest} d s h e none =
   where
     one : digit_of (rest % 10) ≡ digit_of rest
     one = omega arith
-
--- the part of the buffer that holds them
-pub spelt_part : (n k first : ℕ) (digits : List ℕ) → drop first digits ≡ decimal n → length digits ≤ k → take (k - first) (drop first digits) ≡ decimal n
-spelt_part n k first digits e h = take_all (k - first) (drop first digits) (omega (arith, length-drop first digits)) ∙ e

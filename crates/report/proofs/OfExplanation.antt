@@ -13,17 +13,15 @@ use Rattle.ascii.specs.Ascii.{ascii}
 use Rattle.ascii.specs.Decimal.{decimal}
 use Rattle.ascii.specs.Code.{feedless}
 use Rattle.ascii.proofs.OfFeeds.{feedless_decimal}
-use Rattle.checks.specs.declared.Verdict.{Verdict}
-use Rattle.checks.specs.declared.Verdict.TheVariants.{Accepted, Refused}
-use Rattle.checks.specs.declared.AtFault.{AtFault}
-use Rattle.checks.specs.declared.AtFault.TheVariants.{NoNumber, Number}
+use Rattle.std.specs.Prelude.{Option, Some, None, Err}
+use Rattle.checks.specs.declared.NotGranted.{NotGranted}
+use Rattle.checks.specs.declared.Refusal.{Refusal}
 use Rattle.checks.specs.declared.Explanation.{Explanation}
-use Rattle.checks.specs.Verdict.{line_or_quadword, verdict_number, verdict_place, verdict_slot}
+use Rattle.checks.specs.Verdict.{Verdict, Accepted, line_or_quadword, verdict_number, verdict_place, verdict_slot}
 use Rattle.report.specs.Report.{line, joined, pieces_of, lines_of}
 use Rattle.report.specs.Explanation.{rule_words, word_in, rule_word, found_text, limit_text, lines_for, explanation_lines, explanation_bytes}
-use Rattle.report.specs.Code.{rule_line}
 use Rattle.report.proofs.OfReport.{line_first, number_line_length}
-use Rattle.report.proofs.OfRules.{rule_line_length, feedless_word}
+use Rattle.report.proofs.OfRules.{rule_line, rule_line_length, feedless_word}
 
 -- ---- the words
 
@@ -73,30 +71,30 @@ number_of_word a b q own = one_number rule_words words_differ a b q own
 
 -- ---- the bytes are those lines and no others
 
-feedless_found : (fault : AtFault) → feedless (found_text fault) ≡ true
-feedless_found NoNumber = refl
-feedless_found (Number found limit) = feedless_decimal found
+feedless_found : (fault : Option NotGranted) → feedless (found_text fault) ≡ true
+feedless_found None = refl
+feedless_found (Some at) = feedless_decimal at.found
 
-feedless_limit : (fault : AtFault) → feedless (limit_text fault) ≡ true
-feedless_limit NoNumber = refl
-feedless_limit (Number found limit) = feedless_decimal limit
+feedless_limit : (fault : Option NotGranted) → feedless (limit_text fault) ≡ true
+feedless_limit None = refl
+feedless_limit (Some at) = feedless_decimal at.limit
 
 -- taken apart at its line feeds an explanation is its lines
 pub lines_of_explanation : (x : Explanation) → lines_of (explanation_bytes x) ≡ explanation_lines x
 unfolding explanation_bytes explanation_lines pieces_of
 lines_of_explanation x = by x.verdict x.fault
   where
-    by : (v : Verdict) (fault : AtFault) → lines_of (joined (lines_for v fault)) ≡ lines_for v fault
+    by : (v : Verdict) (fault : Option NotGranted) → lines_of (joined (lines_for v fault)) ≡ lines_for v fault
     by Accepted fault = line_first "verdict" (decimal 0) [] refl (feedless_decimal 0)
-    by (Refused rule place slot) fault =
-        line_first "verdict" (decimal rule) _ refl (feedless_decimal rule)
-        ∙ ap (λ (ls : List (List ℕ)). line "verdict" (decimal rule) ∷ ls)
-        (line_first "place" (decimal (line_or_quadword place)) _ refl (feedless_decimal (line_or_quadword place))
-        ∙ ap (λ (ls : List (List ℕ)). line "place" (decimal (line_or_quadword place)) ∷ ls)
-        (line_first "slot" (decimal slot.0) _ refl (feedless_decimal slot.0)
-        ∙ ap (λ (ls : List (List ℕ)). line "slot" (decimal slot.0) ∷ ls)
-        (line_first "rule" (ascii (rule_word rule)) _ refl (feedless_word rule)
-        ∙ ap (λ (ls : List (List ℕ)). rule_line rule ∷ ls)
+    by (Err refusal) fault =
+        line_first "verdict" (decimal refusal.rule) _ refl (feedless_decimal refusal.rule)
+        ∙ ap (λ (ls : List (List ℕ)). line "verdict" (decimal refusal.rule) ∷ ls)
+        (line_first "place" (decimal (line_or_quadword refusal.place)) _ refl (feedless_decimal (line_or_quadword refusal.place))
+        ∙ ap (λ (ls : List (List ℕ)). line "place" (decimal (line_or_quadword refusal.place)) ∷ ls)
+        (line_first "slot" (decimal refusal.slot.0) _ refl (feedless_decimal refusal.slot.0)
+        ∙ ap (λ (ls : List (List ℕ)). line "slot" (decimal refusal.slot.0) ∷ ls)
+        (line_first "rule" (ascii (rule_word refusal.rule)) _ refl (feedless_word refusal.rule)
+        ∙ ap (λ (ls : List (List ℕ)). rule_line refusal.rule ∷ ls)
         (line_first "found" (found_text fault) _ refl (feedless_found fault)
         ∙ ap (λ (ls : List (List ℕ)). line "found" (found_text fault) ∷ ls)
         (line_first "limit" (limit_text fault) [] refl (feedless_limit fault))))))
@@ -104,17 +102,17 @@ lines_of_explanation x = by x.verdict x.fault
 -- ---- how long an explanation is
 
 -- its numbers are of 64 bits
-abbrev pub Of64Bits : AtFault → Type 0
-Of64Bits NoNumber = Unit
-Of64Bits (Number found limit) = (found < 2 ^ 64) × (limit < 2 ^ 64)
+abbrev pub Of64Bits : Option NotGranted → Type 0
+Of64Bits None = Unit
+Of64Bits (Some at) = (at.found < 2 ^ 64) × (at.limit < 2 ^ 64)
 
-found_line_length : (fault : AtFault) → Of64Bits fault → length (line "found" (found_text fault)) ≤ 27
-found_line_length NoNumber h = omega arith
-found_line_length (Number found limit) h = number_line_length "found" found h.0
+found_line_length : (fault : Option NotGranted) → Of64Bits fault → length (line "found" (found_text fault)) ≤ 27
+found_line_length None h = omega arith
+found_line_length (Some at) h = number_line_length "found" at.found h.0
 
-limit_line_length : (fault : AtFault) → Of64Bits fault → length (line "limit" (limit_text fault)) ≤ 27
-limit_line_length NoNumber h = omega arith
-limit_line_length (Number found limit) h = number_line_length "limit" limit h.1
+limit_line_length : (fault : Option NotGranted) → Of64Bits fault → length (line "limit" (limit_text fault)) ≤ 27
+limit_line_length None h = omega arith
+limit_line_length (Some at) h = number_line_length "limit" at.limit h.1
 
 six_lengths : (a b c d e f : List ℕ) → length (joined (a ∷ b ∷ c ∷ d ∷ e ∷ f ∷ [])) ≡ length a + (length b + (length c + (length d + (length e + length f))))
 six_lengths a b c d e f =
@@ -136,22 +134,36 @@ at_most_156_bytes x h k l m = by x.verdict x.fault h k l m
     within : {a b c d e f : ℕ} → a ≤ 29 → b ≤ 27 → c ≤ 26 → d ≤ 20 → e ≤ 27 → f ≤ 27 → a + (b + (c + (d + (e + f)))) ≤ 156
     within p q r s t u = omega arith
 
-    by : (v : Verdict) (fault : AtFault) → verdict_number v < 2 ^ 64 → verdict_place v < 2 ^ 64 → verdict_slot v < 2 ^ 64 → Of64Bits fault → length (joined (lines_for v fault)) ≤ 156
+    by : (v : Verdict) (fault : Option NotGranted) → verdict_number v < 2 ^ 64 → verdict_place v < 2 ^ 64 → verdict_slot v < 2 ^ 64 → Of64Bits fault → length (joined (lines_for v fault)) ≤ 156
     by Accepted fault h k l m =
         omega (arith, length-append (line "verdict" (decimal 0)) [], number_line_length "verdict" 0 h)
-    by (Refused rule place slot) fault h k l m =
+    by (Err refusal) fault h k l m =
         subst (λ (n : ℕ). n ≤ 156)
         (sym
-        (six_lengths (line "verdict" (decimal rule))
-        (line "place" (decimal (line_or_quadword place)))
-        (line "slot" (decimal slot.0))
-        (rule_line rule)
+        (six_lengths (line "verdict" (decimal refusal.rule))
+        (line "place" (decimal (line_or_quadword refusal.place)))
+        (line "slot" (decimal refusal.slot.0))
+        (rule_line refusal.rule)
         (line "found" (found_text fault))
         (line "limit" (limit_text fault))))
         (within
-        (number_line_length "verdict" rule h)
-        (number_line_length "place" (line_or_quadword place) k)
-        (number_line_length "slot" slot.0 l)
-        (rule_line_length rule)
+        (number_line_length "verdict" refusal.rule h)
+        (number_line_length "place" (line_or_quadword refusal.place) k)
+        (number_line_length "slot" refusal.slot.0 l)
+        (rule_line_length refusal.rule)
         (found_line_length fault m)
         (limit_line_length fault m))
+
+-- ---- the lines as the code makes them
+
+pub refusal_made : (refusal : Refusal) (fault : Option NotGranted) {word found limit : List ℕ} {place : ℕ}
+    → place ≡ line_or_quadword refusal.place → word ≡ ascii (rule_word refusal.rule) → found ≡ found_text fault → limit ≡ limit_text fault
+    → joined (line "verdict" (decimal refusal.rule) ∷ line "place" (decimal place) ∷ line "slot" (decimal refusal.slot.0) ∷ line "rule" word
+    ∷ line "found" found ∷ line "limit" limit ∷ [])
+    ≡ explanation_bytes (record { verdict = Err refusal; fault = fault })
+unfolding explanation_bytes explanation_lines
+refusal_made refusal fault h k l m = rw (h, k, l, m)
+
+pub accepted_made : (x : Explanation) → x.verdict ≡ Accepted → joined (line "verdict" (decimal 0) ∷ []) ≡ explanation_bytes x
+unfolding explanation_bytes explanation_lines
+accepted_made x e = rw e

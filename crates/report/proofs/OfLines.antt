@@ -1,101 +1,101 @@
--- The lines as the code puts them: each is the definition's, and one behind the other they are the report, or the explanation. Assumes nothing.
-use mathlib.Core.Path.{◌≡◌, sym, ap, subst, ◌∙◌}
-use mathlib.Core.Bool.{Bool, true, false, false≢true}
-use mathlib.Core.List.{List, [], ◌∷◌, ◌++◌, append-nil}
-use Prim.Native.Nat.{ℕ}
-use borrow.Author.Tests.{eq-eqb, ne_eqb}
-use Rattle.ascii.specs.Ascii.{ascii}
-use Rattle.checks.specs.declared.Verdict.{Verdict}
-use Rattle.checks.specs.declared.Verdict.TheVariants.{Accepted, Refused}
-use Rattle.checks.specs.declared.AtFault.{AtFault}
-use Rattle.checks.specs.declared.AtFault.TheVariants.{NoNumber, Number}
-use Rattle.checks.specs.declared.Explanation.{Explanation}
-use Rattle.checks.specs.Verdict.{is_accepted, verdict_number, verdict_place, verdict_slot}
-use Rattle.report.specs.declared.ReportBuild.{ReportBuild}
-use Rattle.report.specs.declared.ReportBuild.TheVariants.{Unknown}
-use Rattle.ascii.specs.Decimal.{decimal}
-use Rattle.report.specs.Report.{line, shown_build, build_text, released, yes_or_no, report_lines, joined, report_bytes}
-use Rattle.report.specs.Explanation.{rule_word, found_text, limit_text, lines_for, explanation_lines, explanation_bytes}
-use Rattle.report.specs.Code.{Appended}
+-- The lines as the code has them, one behind the other: whether they have room, and where they stand once they are put. Assumes nothing.
+use mathlib.Core.Path.{◌≡◌, refl, sym, ap, subst, ◌∙◌}
+use mathlib.Core.Bool.{Bool, true, false, cond}
+use Rattle.std.specs.Prelude.{Option, Some, None}
+use Rattle.std.proofs.lemmas.Option.{none-some, cond_some}
+use mathlib.Core.List.{List, [], ◌∷◌, ◌++◌, append-nil, append_assoc}
+use Prim.Native.Nat.{ℕ, ◌+◌, ◌-◌, ◌≤◌, ◌<◌}
+use native.Mathlib.Omega.{arith}
+use borrow.Author.Tests.{le-leb, lt-leb, leb-true, leb-false}
+use lib.Dec.{leb}
+use native.Mathlib.Numerals.{add-one}
+use lib.ListN.{length, get_or, drop, length-append, drop_of_length-le}
+use lib.Seq.{drop-cons}
+use Rattle.report.specs.Report.{joined}
+use Rattle.std.specs.Borrow.{Bor}
+use Rattle.report.specs.declared.lines.Value.{Value}
+use Rattle.report.specs.Code.{Appended, text_line, value_text, text_lines}
 use Rattle.report.proofs.OfBuffer.{none_appended, both_appended, as_bytes}
 
--- ---- the two choices, from what the code tests
+-- ---- whether they have room
 
-pub shown_unknown : (build : ReportBuild) (verdict : Verdict) (n : ℕ) → n ≡ verdict_number verdict → n ≡ 1 → Unknown ≡ shown_build build verdict
-shown_unknown build verdict n e h = rw (eq-eqb (verdict_number verdict) 1 (sym e ∙ h))
+-- the lines passed were taken off the room, and `rest` are left
+pub record Fitting (all rest : List (List ℕ)) (room left : ℕ) : Type 0 where
+  pub taken : length (joined all) + left ≡ length (joined rest) + room
 
-pub shown_as_known : (build : ReportBuild) (verdict : Verdict) (n : ℕ) → n ≡ verdict_number verdict → (n ≡ 1 → ⊥) → build ≡ shown_build build verdict
-shown_as_known build verdict n e h = rw (ne_eqb (verdict_number verdict) 1 (λ k. h (e ∙ k)))
+pub none_taken : (all : List (List ℕ)) (room : ℕ) → Fitting all all room room
+none_taken all room = record { taken = refl }
 
-pub released_as_told : {build told : ReportBuild} (verdict : Verdict) → build ≡ told → released told verdict ≡ released build verdict
-released_as_told verdict e = ap (λ (b : ReportBuild). released b verdict) (sym e)
+pub all_taken : {all : List (List ℕ)} {room left : ℕ} → Fitting all [] room left → true ≡ leb (length (joined all)) room
+all_taken {all} {room} w = sym (le-leb (length (joined all)) room (omega (arith, w.taken)))
 
--- ---- the lines that the code puts whole
+module _ {all rest : List (List ℕ)} {line : List ℕ} {room left : ℕ} (w : Fitting all (line ∷ rest) room left) where
+  pub line_too_long : left < length line → false ≡ leb (length (joined all)) room
+  line_too_long l = sym (lt-leb (length (joined all)) room (omega (arith, w.taken, length-append line (joined rest))))
 
-pub build_line : {build told : ReportBuild} {at end : ℕ} {earlier later : List ℕ} → build ≡ told → Appended at (line "build" (build_text told)) earlier later end → Appended at (line "build" (build_text build)) earlier later end
-build_line {at = at} {end = end} {earlier = earlier} {later = later} e a =
-    subst (λ (b : ReportBuild). Appended at (line "build" (build_text b)) earlier later end) (sym e) a
+  pub line_taken : length line ≤ left → Fitting all rest room (left - length line)
+  line_taken l = record { taken = omega (arith, w.taken, length-append line (joined rest)) }
 
-pub release_line : {free told : Bool} {at end : ℕ} {earlier later : List ℕ} → free ≡ told → Appended at (line "release" (yes_or_no told)) earlier later end → Appended at (line "release" (yes_or_no free)) earlier later end
-release_line {at = at} {end = end} {earlier = earlier} {later = later} e a =
-    subst (λ (b : Bool). Appended at (line "release" (yes_or_no b)) earlier later end) (sym e) a
+-- what is left of the room behind a line, as the code answers it
+module _ (n left : ℕ) where
+  pub too_long : None ≡ cond (leb n left) (Some (left - n)) None → left < n
+  too_long h = by (leb n left) refl h
+    where
+      by : (x : Bool) → leb n left ≡ x → None ≡ cond x (Some (left - n)) None → left < n
+      by true e k = absurd (none-some (left - n) k)
+      by false e k = leb-false n left e
 
-pub dash_lines : {fault : AtFault} {at end : ℕ} {earlier later : List ℕ} → fault ≡ NoNumber
-    → Appended at (ascii "found=-\nlimit=-\n") earlier later end
-    → Appended at (line "found" (found_text fault) ++ line "limit" (limit_text fault)) earlier later end
-dash_lines e a = as_bytes (rw e) a
+  pub left_over : {behind : ℕ} → Some behind ≡ cond (leb n left) (Some (left - n)) None → (n ≤ left) × (left - n ≡ behind)
+  left_over {behind} h = let w = cond_some (leb n left) (left - n) behind (sym h) in (leb-true n left w.0, w.1)
 
-pub number_lines : {fault : AtFault} {found limit at middle end : ℕ} {a b c : List ℕ} → fault ≡ Number found limit
-    → Appended at (line "found" (decimal found)) a b middle
-    → Appended middle (line "limit" (decimal limit)) b c end
-    → Appended at (line "found" (found_text fault) ++ line "limit" (limit_text fault)) a c end
-number_lines e one two = as_bytes (rw e) (both_appended one two)
+-- ---- one put behind the other
 
--- ---- the five lines one behind the other
+-- the first bytes of the buffer are the lines passed, `so_far`, and `rest` are left
+pub record Putting (all rest : List (List ℕ)) (buffer later : List ℕ) (end : ℕ) : Type 0 where
+  pub bytes : List ℕ
+  pub so_far : Appended 0 bytes buffer later end
+  pub all_of : bytes ++ joined rest ≡ joined all
+  pub same_length : length later ≡ length buffer
 
-pub five_lines : (build shown : ReportBuild) (verdict : Verdict) (n p s : ℕ) (free : Bool) {i j k l end : ℕ} {a b c d e f : List ℕ}
-    → shown ≡ shown_build build verdict → n ≡ verdict_number verdict → p ≡ verdict_place verdict → s ≡ verdict_slot verdict → free ≡ released build verdict
-    → Appended 0 (line "build" (build_text shown)) a b i
-    → Appended i (line "verdict" (decimal n)) b c j
-    → Appended j (line "place" (decimal p)) c d k
-    → Appended k (line "slot" (decimal s)) d e l
-    → Appended l (line "release" (yes_or_no free)) e f end
-    → Appended 0 (report_bytes build verdict) a f end
-unfolding report_bytes report_lines
-five_lines build shown verdict n p s free {end = end} {f = f} of-build of_number of-place of-slot of-release one two three four five =
-    as_bytes (rw (of-build, of_number, of-place, of-slot, of-release))
-    (both_appended one (both_appended two (both_appended three (both_appended four (both_appended five (none_appended end f))))))
+pub none_put : (all : List (List ℕ)) (buffer : List ℕ) → Putting all all buffer buffer 0
+none_put all buffer = record { bytes = []; so_far = none_appended 0 buffer; all_of = refl; same_length = refl }
 
--- ---- an explanation's lines one behind the other
+pub all_put : {all : List (List ℕ)} {buffer later : List ℕ} {end : ℕ} → Putting all [] buffer later end → Appended 0 (joined all) buffer later end
+all_put w = as_bytes (sym (append-nil w.bytes) ∙ w.all_of) w.so_far
 
-pub one_line : (x : Explanation) (n : ℕ) {taken : Bool} {end : ℕ} {a b : List ℕ}
-    → taken ≡ is_accepted x.verdict → taken ≡ true → n ≡ verdict_number x.verdict
-    → Appended 0 (line "verdict" (decimal n)) a b end
-    → Appended 0 (explanation_bytes x) a b end
-unfolding explanation_bytes explanation_lines
-one_line x n {end = end} {a = a} {b = b} of_test taken of_number one = by x.verdict (sym of_test ∙ taken) of_number
-  where
-    by : (v : Verdict) → is_accepted v ≡ true → n ≡ verdict_number v → Appended 0 (joined (lines_for v x.fault)) a b end
-    by Accepted h e = as_bytes (rw e) (both_appended one (none_appended end b))
-    by (Refused rule place slot) h e = absurd (false≢true h)
+module _ {all rest : List (List ℕ)} {line buffer later : List ℕ} {end : ℕ} (w : Putting all (line ∷ rest) buffer later end) where
+  pub line_room : length (joined all) ≤ length buffer → end + length line ≤ length later
+  line_room l =
+      omega (arith, w.so_far.ends, w.same_length, ap length w.all_of, length-append w.bytes (line ++ joined rest), length-append line (joined rest))
 
-pub six_lines : (x : Explanation) (n p s : ℕ) {taken : Bool} {i j k l end : ℕ} {a b c d e f : List ℕ}
-    → taken ≡ is_accepted x.verdict → taken ≡ false → n ≡ verdict_number x.verdict → p ≡ verdict_place x.verdict → s ≡ verdict_slot x.verdict
-    → Appended 0 (line "verdict" (decimal n)) a b i
-    → Appended i (line "place" (decimal p)) b c j
-    → Appended j (line "slot" (decimal s)) c d k
-    → Appended k (line "rule" (ascii (rule_word n))) d e l
-    → Appended l (line "found" (found_text x.fault) ++ line "limit" (limit_text x.fault)) e f end
-    → Appended 0 (explanation_bytes x) a f end
-unfolding explanation_bytes explanation_lines
-six_lines x n p s {end = end} {a = a} {f = f} of_test left of_number of-place of-slot one two three four five =
-    by x.verdict (sym of_test ∙ left) of_number of-place of-slot
-  where
-    last-two : line "found" (found_text x.fault) ++ line "limit" (limit_text x.fault) ≡ joined (line "found" (found_text x.fault) ∷ line "limit" (limit_text x.fault) ∷ [])
-    last-two = ap (λ (l : List ℕ). line "found" (found_text x.fault) ++ l) (sym (append-nil (line "limit" (limit_text x.fault))))
+  pub line_put : {last : ℕ} {after : List ℕ} → length after ≡ length later → Appended end line later after last → Putting all rest buffer after last
+  line_put {last} {after} same p =
+      record {
+        bytes = w.bytes ++ line;
+        so_far = both_appended w.so_far p;
+        all_of = append_assoc w.bytes line (joined rest) ∙ w.all_of;
+        same_length = same ∙ w.same_length;
+      }
 
-    by : (v : Verdict) → is_accepted v ≡ false → n ≡ verdict_number v → p ≡ verdict_place v → s ≡ verdict_slot v → Appended 0 (joined (lines_for v x.fault)) a f end
-    by Accepted h u v w = absurd (false≢true (sym h))
-    by (Refused rule place slot) h u v w =
-        as_bytes (rw (u, v, w))
-        (both_appended one (both_appended two (both_appended three (both_appended four (as_bytes last-two five)))))
+-- ---- the code's lines by their places
+
+abbrev Lines : Type 0
+Lines = List (Bor (List ℕ) × Value)
+
+abbrev line_at : Bor (List ℕ) × Value → List ℕ
+line_at l = text_line l.0.now (value_text l.1)
+
+module _ (lines : Lines) (i : ℕ) (other : Bor (List ℕ) × Value) (h : i < length lines) where
+  next_line : text_lines (drop i lines) ≡ line_at (get_or lines i other) ∷ text_lines (drop (i + 1) lines)
+  next_line = rw (drop-cons lines i other, add-one)
+
+  pub fitting_here : {all : List (List ℕ)} {room left : ℕ} → Fitting all (text_lines (drop i lines)) room left
+      → Fitting all (line_at (get_or lines i other) ∷ text_lines (drop (i + 1) lines)) room left
+  fitting_here {all} {room} {left} w = subst (λ (rest : List (List ℕ)). Fitting all rest room left) next_line w
+
+  pub putting_here : {all : List (List ℕ)} {buffer later : List ℕ} {end : ℕ} → Putting all (text_lines (drop i lines)) buffer later end
+      → Putting all (line_at (get_or lines i other) ∷ text_lines (drop (i + 1) lines)) buffer later end
+  putting_here {all} {buffer} {later} {end} w = subst (λ (rest : List (List ℕ)). Putting all rest buffer later end) next_line w
+
+pub no_lines_left : (lines : Lines) (i : ℕ) → length lines ≤ i → text_lines (drop i lines) ≡ []
+no_lines_left lines i h = ap text_lines (drop_of_length-le lines h)

@@ -19,11 +19,10 @@ use Rattle.ascii.proofs.OfDecimal.{at_most_20_digits}
 use Rattle.ascii.proofs.OfFeeds.{feedless_joined, feedless_decimal}
 use Rattle.units.specs.declared.Slots.{Slots}
 use Rattle.checks.specs.declared.Place.{Place}
-use Rattle.checks.specs.declared.Verdict.{Verdict}
-use Rattle.checks.specs.declared.Verdict.TheVariants.{Accepted, Refused}
-use Rattle.checks.specs.Verdict.{is_accepted, verdict_number, verdict_place, verdict_slot}
-use Rattle.report.specs.declared.ReportBuild.{ReportBuild}
-use Rattle.report.specs.declared.ReportBuild.TheVariants.{Unknown, Production, Debug}
+use Rattle.std.specs.Prelude.{Option, Some, None, Err}
+use Rattle.checks.specs.Verdict.{Verdict, Accepted, Refused, is_accepted, verdict_number, verdict_place, verdict_slot}
+use Rattle.card.specs.declared.Build.{Build}
+use Rattle.card.specs.declared.Build.TheVariants.{Production, Debug}
 use Rattle.report.specs.Report.{line, shown_build, build_text, released, yes_or_no, report_lines, joined, report_bytes, before_first, pieces_of, lines_of}
 
 -- ---- the bytes are those five lines and no others
@@ -36,10 +35,10 @@ feed_ends (b ∷ body) rest h =
     let w = both (not (eqb b line_feed)) (feedless body) h in
     rw (not-true (eqb b line_feed) w.0) (ap (before_first b) (feed_ends body rest w.1))
 
-feedless_build : (build : ReportBuild) → feedless (build_text build) ≡ true
-feedless_build Unknown = refl
-feedless_build Production = refl
-feedless_build Debug = refl
+feedless_build : (build : Option Build) → feedless (build_text build) ≡ true
+feedless_build None = refl
+feedless_build (Some Production) = refl
+feedless_build (Some Debug) = refl
 
 feedless_answer : (free : Bool) → feedless (yes_or_no free) ≡ true
 feedless_answer true = refl
@@ -56,7 +55,7 @@ line_first key value rest h k =
     ∙ ap (λ (l : List ℕ). l ∷ lines_of rest) (append_assoc (ascii key) (61 ∷ value) (10 ∷ []))
 
 -- taken apart at its line feeds the report is its five lines
-pub lines_of_report : (build : ReportBuild) (verdict : Verdict) → lines_of (report_bytes build verdict) ≡ report_lines build verdict
+pub lines_of_report : (build : Option Build) (verdict : Verdict) → lines_of (report_bytes build verdict) ≡ report_lines build verdict
 unfolding report_bytes report_lines pieces_of
 lines_of_report build verdict =
     line_first "build" (build_text (shown_build build verdict)) _ refl (feedless_build (shown_build build verdict))
@@ -73,16 +72,16 @@ lines_of_report build verdict =
 
 accepted_if : (verdict : Verdict) → is_accepted verdict ≡ true → verdict ≡ Accepted
 accepted_if Accepted h = refl
-accepted_if (Refused rule place slot) h = absurd (false≢true h)
+accepted_if (Err refusal) h = absurd (false≢true h)
 
 -- released is what document 01 says
-pub released_exactly_if : (build : ReportBuild) (verdict : Verdict) → released build verdict ≡ true ↔ (verdict ≡ Accepted) × (build ≡ Production)
+pub released_exactly_if : (build : Option Build) (verdict : Verdict) → released build verdict ≡ true ↔ (verdict ≡ Accepted) × (build ≡ Some Production)
 released_exactly_if build verdict = (there build, λ h. rw (h.0, h.1))
   where
-    there : (build : ReportBuild) → released build verdict ≡ true → (verdict ≡ Accepted) × (build ≡ Production)
-    there Unknown h = absurd (false≢true h)
-    there Production h = (accepted_if verdict h, refl)
-    there Debug h = absurd (false≢true h)
+    there : (build : Option Build) → released build verdict ≡ true → (verdict ≡ Accepted) × (build ≡ Some Production)
+    there None h = absurd (false≢true h)
+    there (Some Production) h = (accepted_if verdict h, refl)
+    there (Some Debug) h = absurd (false≢true h)
 
 -- two lines that differ in the byte at i
 differ : (i : ℕ) (xs ys : List ℕ) → (get_or xs i 0 ≡ get_or ys i 0 → ⊥) → xs ≡ ys → ⊥
@@ -93,11 +92,11 @@ answer_line true e = refl
 answer_line false e = absurd (differ 8 (ascii "release=yes\n") (line "release" (ascii "no")) (λ k. omega arith) e)
 
 -- the line release=yes is among the report's exactly if the verdict is Accepted and the build is production
-pub release_yes : (build : ReportBuild) (verdict : Verdict) → Memᴰ (ascii "release=yes\n") (lines_of (report_bytes build verdict)) ↔ (verdict ≡ Accepted) × (build ≡ Production)
+pub release_yes : (build : Option Build) (verdict : Verdict) → Memᴰ (ascii "release=yes\n") (lines_of (report_bytes build verdict)) ↔ (verdict ≡ Accepted) × (build ≡ Some Production)
 unfolding report_lines
 release_yes build verdict = (λ m. there (subst (Memᴰ (ascii "release=yes\n")) (lines_of_report build verdict) m), back)
   where
-    there : Memᴰ (ascii "release=yes\n") (report_lines build verdict) → (verdict ≡ Accepted) × (build ≡ Production)
+    there : Memᴰ (ascii "release=yes\n") (report_lines build verdict) → (verdict ≡ Accepted) × (build ≡ Some Production)
     there m =
         ⊎_elim (λ e. absurd (differ 0 _ _ (λ k. omega arith) e))
         (λ m. ⊎_elim (λ e. absurd (differ 0 _ _ (λ k. omega arith) e))
@@ -109,26 +108,26 @@ release_yes build verdict = (λ m. there (subst (Memᴰ (ascii "release=yes\n"))
         (Memᴰ.cases_cons m))
         (Memᴰ.cases_cons m)
 
-    back : (verdict ≡ Accepted) × (build ≡ Production) → Memᴰ (ascii "release=yes\n") (lines_of (report_bytes build verdict))
+    back : (verdict ≡ Accepted) × (build ≡ Some Production) → Memᴰ (ascii "release=yes\n") (lines_of (report_bytes build verdict))
     back h =
         subst (Memᴰ (ascii "release=yes\n")) (sym (lines_of_report build verdict))
         (Memᴰ.tail (Memᴰ.tail (Memᴰ.tail (Memᴰ.tail
         (Memᴰ.head (ap (λ (t : Bool). line "release" (yes_or_no t)) (sym ((released_exactly_if build verdict).1 h))))))))
 
 -- and it is the last line that says so
-pub last_line : (build : ReportBuild) (verdict : Verdict) → get_or (lines_of (report_bytes build verdict)) 4 [] ≡ line "release" (yes_or_no (released build verdict))
+pub last_line : (build : Option Build) (verdict : Verdict) → get_or (lines_of (report_bytes build verdict)) 4 [] ≡ line "release" (yes_or_no (released build verdict))
 unfolding report_lines
 last_line build verdict = ap (λ (ls : List (List ℕ)). get_or ls 4 []) (lines_of_report build verdict)
 
 -- with verdict 1 the first line shows no build
-pub unknown_build : (build : ReportBuild) (verdict : Verdict) → verdict_number verdict ≡ 1 → get_or (lines_of (report_bytes build verdict)) 0 [] ≡ ascii "build=unknown\n"
+pub unknown_build : (build : Option Build) (verdict : Verdict) → verdict_number verdict ≡ 1 → get_or (lines_of (report_bytes build verdict)) 0 [] ≡ ascii "build=unknown\n"
 unfolding report_lines
 unknown_build build verdict h =
     ap (λ (ls : List (List ℕ)). get_or ls 0 []) (lines_of_report build verdict)
-    ∙ ap (λ (t : Bool). line "build" (build_text (cond t Unknown build))) (eq-eqb (verdict_number verdict) 1 h)
+    ∙ ap (λ (t : Bool). line "build" (build_text (cond t None build))) (eq-eqb (verdict_number verdict) 1 h)
 
 -- the table's rule 1 is the one with that number
-pub unknown_build_on_card_line : (build : ReportBuild) (place : Place) (slot : Slots) → get_or (lines_of (report_bytes build (Refused 1 place slot))) 0 [] ≡ ascii "build=unknown\n"
+pub unknown_build_on_card_line : (build : Option Build) (place : Place) (slot : Slots) → get_or (lines_of (report_bytes build (Refused 1 place slot))) 0 [] ≡ ascii "build=unknown\n"
 unknown_build_on_card_line build place slot = unknown_build build (Refused 1 place slot) refl
 
 -- ---- how long a report is
@@ -142,10 +141,10 @@ number_line_length key n h =
       at_most_20_digits n h,
     )
 
-build_line_length : (build : ReportBuild) → length (line "build" (build_text build)) ≤ 17
-build_line_length Unknown = omega arith
-build_line_length Production = omega arith
-build_line_length Debug = omega arith
+build_line_length : (build : Option Build) → length (line "build" (build_text build)) ≤ 17
+build_line_length None = omega arith
+build_line_length (Some Production) = omega arith
+build_line_length (Some Debug) = omega arith
 
 release_line_length : (free : Bool) → length (line "release" (yes_or_no free)) ≤ 12
 release_line_length true = omega arith
@@ -163,7 +162,7 @@ five_lengths a b c d e =
     )
 
 -- no report whose numbers are of 64 bits is longer than 111 bytes
-pub at_most_111_bytes : (build : ReportBuild) (verdict : Verdict) → verdict_number verdict < 2 ^ 64 → verdict_place verdict < 2 ^ 64 → verdict_slot verdict < 2 ^ 64 → length (report_bytes build verdict) ≤ 111
+pub at_most_111_bytes : (build : Option Build) (verdict : Verdict) → verdict_number verdict < 2 ^ 64 → verdict_place verdict < 2 ^ 64 → verdict_slot verdict < 2 ^ 64 → length (report_bytes build verdict) ≤ 111
 unfolding report_bytes report_lines
 at_most_111_bytes build verdict h k l =
     subst (λ (n : ℕ). n ≤ 111)
@@ -182,3 +181,13 @@ at_most_111_bytes build verdict h k l =
   where
     within : {a b c d e : ℕ} → a ≤ 17 → b ≤ 29 → c ≤ 27 → d ≤ 26 → e ≤ 12 → a + (b + (c + (d + e))) ≤ 111
     within p q r s t = omega arith
+
+-- ---- the lines as the code makes them
+
+pub report_made : (build : Option Build) (verdict : Verdict) {word answer : List ℕ} {rule place slot : ℕ}
+    → word ≡ build_text (shown_build build verdict) → rule ≡ verdict_number verdict → place ≡ verdict_place verdict → slot ≡ verdict_slot verdict
+    → answer ≡ yes_or_no (released build verdict)
+    → joined (line "build" word ∷ line "verdict" (decimal rule) ∷ line "place" (decimal place) ∷ line "slot" (decimal slot) ∷ line "release" answer ∷ [])
+    ≡ report_bytes build verdict
+unfolding report_bytes report_lines
+report_made build verdict h k l m n = rw (h, k, l, m, n)

@@ -2,6 +2,9 @@
 use Rattle.std.specs.Prelude.{ℕ, ◌+◌, ◌≡◌, List, ◌++◌, length, take, drop, map}
 use Rattle.std.specs.Borrow.{Bor}
 use Rattle.ascii.specs.Ascii.{ascii}
+use Rattle.ascii.specs.Decimal.{decimal}
+use Rattle.report.specs.declared.lines.Value.{Value}
+use Rattle.report.specs.declared.lines.Value.TheVariants.{Word, Number}
 
 -- bytes were put into a buffer at a place, behind what stood before it; what stands behind their end is as it was
 pub record Appended (at : ℕ) (bytes earlier later : List ℕ) (end : ℕ) : Type 0 where
@@ -13,6 +16,11 @@ pub record Appended (at : ℕ) (bytes earlier later : List ℕ) (end : ℕ) : Ty
 abbrev pub text_line : List ℕ → List ℕ → List ℕ
 text_line name value = name ++ (ascii "=" ++ (value ++ ascii "\n"))
 
+-- what stands behind the equals sign
+abbrev pub value_text : Value → List ℕ
+value_text (Word word) = word.now
+value_text (Number n) = decimal n
+
 -- lines as the code has them, and as text
-abbrev pub text_lines : List (Bor (List ℕ) × Bor (List ℕ)) → List (List ℕ)
-text_lines lines = map (λ (l : Bor (List ℕ) × Bor (List ℕ)). text_line l.0.now l.1.now) lines
+abbrev pub text_lines : List (Bor (List ℕ) × Value) → List (List ℕ)
+text_lines lines = map (λ (l : Bor (List ℕ) × Value). text_line l.0.now (value_text l.1)) lines

@@ -1,16 +1,13 @@
 // An explanation's lines: what is at fault, for a reader.
 ghost use Rattle.std.specs.Prelude.{◌≡◌, Err};
-ghost use Rattle.std.specs.Option.{option_map_or};
-ghost use Rattle.std.specs.Fmt.InlineText.{inline_text};
 ghost use Rattle.ascii.specs.Ascii.{ascii};
-ghost use Rattle.ascii.specs.Decimal.{decimal};
-ghost use Rattle.report.specs.Explanation.{rule_word, explanation_bytes};
+ghost use Rattle.report.specs.Explanation.{rule_word, found_text, limit_text, explanation_bytes};
 ghost use Rattle.report.specs.Buffer.{written_of, buffer_after};
+ghost use Rattle.report.specs.Code.{value_text};
 
 use crate::TooSmall;
-use crate::lines::{decimal, write_lines};
+use crate::lines::{Value, write_lines};
 use checks::{Explanation, NotGranted, Refusal};
-use std::fmt::InlineText;
 
 // Writes the explanation to the start of `out`, and answers how many bytes it has; where it does not fit, `out` stays as it was.
 pub fn write_explanation(explanation: Explanation, out: &mut [u8]) -> Result<usize, TooSmall>
@@ -18,7 +15,7 @@ pub fn write_explanation(explanation: Explanation, out: &mut [u8]) -> Result<usi
     ensures out_after { out.new ≡ buffer_after (explanation_bytes explanation) out.old }
 {
     match explanation.verdict {
-        Ok(()) => write_lines(&[("verdict", "0")], out),
+        Ok(()) => write_lines(&[("verdict", Value::Number(0))], out),
         Err(refusal) => write_refusal(refusal, explanation.fault, out),
     }
 }
@@ -31,28 +28,26 @@ fn write_refusal(
     ensures value { result ≡ written_of (explanation_bytes (record { verdict = Err refusal; fault = fault })) out.old }
     ensures out_after { out.new ≡ buffer_after (explanation_bytes (record { verdict = Err refusal; fault = fault })) out.old }
 {
-    let rule = decimal(refusal.rule as usize);
-    let place = decimal(usize::from(refusal.place));
-    let slot = decimal(refusal.slot.0);
-    let found = number_or_dash(fault.map(|f| f.found));
-    let limit = number_or_dash(fault.map(|f| f.limit));
+    let (found, limit) = numbers_of(fault);
     let lines = [
-        ("verdict", rule.as_str()),
-        ("place", place.as_str()),
-        ("slot", slot.as_str()),
-        ("rule", rule_word(refusal.rule)),
-        ("found", found.as_str()),
-        ("limit", limit.as_str()),
+        ("verdict", Value::Number(refusal.rule as usize)),
+        ("place", Value::Number(usize::from(refusal.place))),
+        ("slot", Value::Number(refusal.slot.0)),
+        ("rule", Value::Word(rule_word(refusal.rule))),
+        ("found", found),
+        ("limit", limit),
     ];
     write_lines(&lines, out)
 }
 
-fn number_or_dash(n: Option<usize>) -> InlineText<20>
-    ensures { inline_text result ≡ option_map_or decimal n (ascii "-") }
+// What the lines found and limit show.
+fn numbers_of(fault: Option<NotGranted>) -> (Value, Value)
+    ensures found { value_text result.0 ≡ found_text fault }
+    ensures limit { value_text result.1 ≡ limit_text fault }
 {
-    match n {
-        Some(n) => decimal(n),
-        None => InlineText::of("-"),
+    match fault {
+        Some(at) => (Value::Number(at.found), Value::Number(at.limit)),
+        None => (Value::Word("-"), Value::Word("-")),
     }
 }
 

@@ -2,6 +2,7 @@
 // buffer stays as it was.
 #![tactic(auto)]
 
+mod decimal;
 mod explanation;
 mod lines;
 mod settings;
@@ -13,7 +14,7 @@ ghost use Rattle.report.specs.Buffer.{written_of, buffer_after};
 use card::Build;
 use checks::Verdict;
 pub use explanation::write_explanation;
-use lines::{decimal, write_lines};
+use lines::{Value, write_lines};
 pub use settings::write_settings;
 
 // The buffer is too small for what was to be written.
@@ -30,15 +31,12 @@ pub fn write_report(
     ensures value { result ≡ written_of (report_bytes build verdict) out.old }
     ensures out_after { out.new ≡ buffer_after (report_bytes build verdict) out.old }
 {
-    let number = decimal(checks::verdict_number(verdict) as usize);
-    let place = decimal(checks::verdict_place(verdict));
-    let slot = decimal(checks::verdict_slot(verdict));
     let lines = [
-        ("build", build_word(shown_build(build, verdict))),
-        ("verdict", number.as_str()),
-        ("place", place.as_str()),
-        ("slot", slot.as_str()),
-        ("release", yes_or_no(is_released(build, verdict))),
+        ("build", Value::Word(build_word(shown_build(build, verdict)))),
+        ("verdict", Value::Number(checks::verdict_number(verdict) as usize)),
+        ("place", Value::Number(checks::verdict_place(verdict))),
+        ("slot", Value::Number(checks::verdict_slot(verdict))),
+        ("release", Value::Word(yes_or_no(is_released(build, verdict)))),
     ];
     write_lines(&lines, out)
 }

@@ -1,24 +1,23 @@
 // Lines NAME=value, put one behind the other into a buffer.
 ghost use Rattle.std.specs.Prelude.{◌≡◌, ◌+◌, ◌-◌, ◌≤◌, leb, length, Some, None, if◌then◌else◌};
-ghost use Rattle.std.specs.Fmt.InlineText.{inline_text};
-ghost use Rattle.ascii.specs.Decimal.{decimal};
 ghost use Rattle.report.specs.Report.{joined};
 ghost use Rattle.report.specs.Buffer.{written_of, buffer_after};
-ghost use Rattle.report.specs.Code.{Appended, text_line, text_lines};
+ghost use Rattle.report.specs.Code.{Appended, text_line, value_text, text_lines};
 
 use crate::TooSmall;
-use std::fmt::InlineText;
+use crate::decimal::Decimal;
 
-// A number in decimal. 20 bytes hold any number of 64 bits.
-pub(crate) fn decimal(n: usize) -> InlineText<20>
-    ensures { inline_text result ≡ decimal n }
-{
-    InlineText::of(n)
+// What stands behind an equals sign.
+#[derive(Clone, Copy)]
+pub(crate) enum Value {
+    Word(&'static str),
+    Number(usize),
 }
 
-// Writes lines to the start of `out`, each a name and a value, and answers how many bytes they have; where they do not fit, `out` stays
-// as it was.
-pub(crate) fn write_lines(lines: &[(&str, &str)], out: &mut [u8]) -> Result<usize, TooSmall>
+pub(crate) type Line = (&'static str, Value);
+
+// Writes lines to the start of `out`, and answers how many bytes they have; where they do not fit, `out` stays as it was.
+pub(crate) fn write_lines(lines: &[Line], out: &mut [u8]) -> Result<usize, TooSmall>
     ensures value { result ≡ written_of (joined (text_lines lines.now)) out.old }
     ensures out_after { out.new ≡ buffer_after (joined (text_lines lines.now)) out.old }
 {
@@ -29,12 +28,12 @@ pub(crate) fn write_lines(lines: &[(&str, &str)], out: &mut [u8]) -> Result<usiz
 }
 
 // Whether the lines are at most `room` bytes.
-fn have_room(lines: &[(&str, &str)], room: usize) -> bool
+fn have_room(lines: &[Line], room: usize) -> bool
     ensures { result ≡ leb (length (joined (text_lines lines.now))) room }
 {
     let mut left = room;
     for (name, value) in lines {
-        let Some(behind) = room_behind(left, name, value) else {
+        let Some(behind) = room_behind(left, name, *value) else {
             return false;
         };
         left = behind;
@@ -43,35 +42,54 @@ fn have_room(lines: &[(&str, &str)], room: usize) -> bool
 }
 
 // Puts the lines to the start of `out`, and answers where they end.
-fn put_lines(lines: &[(&str, &str)], out: &mut [u8]) -> usize
+fn put_lines(lines: &[Line], out: &mut [u8]) -> usize
     requires { length (joined (text_lines lines.now)) ≤ length out.old }
     ensures { Appended 0 (joined (text_lines lines.now)) out.old out.new result }
 {
     let mut at = 0;
     for (name, value) in lines {
-        at = put_line(out, at, name, value);
+        at = put_line(out, at, name, *value);
     }
     at
 }
 
 // What is left of `room` behind a line, if that has room there. Its parts are taken off one by one, so that no sum can grow too large.
-pub(crate) fn room_behind(room: usize, name: &str, value: &str) -> Option<usize>
-    ensures { let line = length (text_line name.now value.now) in result ≡ (if leb line room then Some (room - line) else None) }
+pub(crate) fn room_behind(room: usize, name: &str, value: Value) -> Option<usize>
+    ensures { let line = length (text_line name.now (value_text value)) in result ≡ (if leb line room then Some (room - line) else None) }
 {
     room.checked_sub(name.len())?
-        .checked_sub(value.len())?
+        .checked_sub(length(value))?
         .checked_sub(2)
 }
 
+fn length(value: Value) -> usize
+    ensures { result ≡ length (value_text value) }
+{
+    match value {
+        Value::Word(word) => word.len(),
+        Value::Number(n) => Decimal::of(n).as_bytes().len(),
+    }
+}
+
 // Puts a line at `at`, and answers where it ends.
-pub(crate) fn put_line(out: &mut [u8], at: usize, name: &str, value: &str) -> usize
-    requires { at + length (text_line name.now value.now) ≤ length out.old }
-    ensures { Appended at (text_line name.now value.now) out.old out.new result }
+pub(crate) fn put_line(out: &mut [u8], at: usize, name: &str, value: Value) -> usize
+    requires { at + length (text_line name.now (value_text value)) ≤ length out.old }
+    ensures { Appended at (text_line name.now (value_text value)) out.old out.new result }
 {
     let at_sign = put(out, at, name.as_bytes());
     let at_value = put(out, at_sign, b"=");
-    let at_feed = put(out, at_value, value.as_bytes());
+    let at_feed = put_value(out, at_value, value);
     put(out, at_feed, b"\n")
+}
+
+fn put_value(out: &mut [u8], at: usize, value: Value) -> usize
+    requires { at + length (value_text value) ≤ length out.old }
+    ensures { Appended at (value_text value) out.old out.new result }
+{
+    match value {
+        Value::Word(word) => put(out, at, word.as_bytes()),
+        Value::Number(n) => put(out, at, Decimal::of(n).as_bytes()),
+    }
 }
 
 // Puts `bytes` into `out` from `at` on, and answers where they end.

@@ -5,7 +5,7 @@ ghost use Rattle.report.specs.Buffer.{written_of, buffer_after};
 ghost use Rattle.report.specs.Code.{Appended};
 
 use crate::TooSmall;
-use crate::lines::{decimal, put_line, room_behind};
+use crate::lines::{Value, put_line, room_behind};
 
 // Writes a line for each of the keys and values to the start of `out`, as many as there are of both, and answers how many bytes they
 // have; where they do not fit, `out` stays as it was. `keys` are names, without their equals sign.
@@ -25,7 +25,7 @@ fn have_room(keys: &[&str], values: &[u32], room: usize) -> bool
 {
     let mut left = room;
     for (key, value) in keys.iter().zip(values) {
-        let Some(behind) = room_behind(left, key, decimal(*value as usize).as_str()) else {
+        let Some(behind) = room_behind(left, key, Value::Number(*value as usize)) else {
             return false;
         };
         left = behind;
@@ -40,7 +40,7 @@ fn put_settings(keys: &[&str], values: &[u32], out: &mut [u8]) -> usize
 {
     let mut at = 0;
     for (key, value) in keys.iter().zip(values) {
-        at = put_line(out, at, key, decimal(*value as usize).as_str());
+        at = put_line(out, at, key, Value::Number(*value as usize));
     }
     at
 }
