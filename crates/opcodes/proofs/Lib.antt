@@ -2,5 +2,4 @@
 pub mod OfRuns
 pub mod OfTable
 pub mod OfTaken
-pub mod OfControl
 pub mod Examples

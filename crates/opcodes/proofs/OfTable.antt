@@ -7,10 +7,11 @@ use Prim.Native.Nat.{ℕ, suc, ◌+◌, ◌-◌, ◌*◌, ◌/◌, ◌%◌, ◌^
 use native.Mathlib.Omega.{arith}
 use lib.Dec.{eqb, ltb}
 use lib.ListN.{length}
-use borrow.Author.Tests.{eqb-true, ltb-true, lt-ltb, le-ltb}
+use borrow.Author.Tests.{eqb-true, ltb-true, ltb-false, lt-ltb, le-ltb}
+use Rattle.laws.proofs.OfTests.{by_test_lem}
 use Rattle.opcodes.specs.declared.alu.Class.{Class}
 use Rattle.opcodes.specs.Alu.{op2, op3, op2_class, op3_class, not_taken}
-use Rattle.opcodes.specs.Code.{code_of, rows_from, joined_of, eight, eight_at, class_in, place_of, class_placed, class_numbered}
+use Rattle.opcodes.specs.Code.{code_of, rows_from, joined_of, eight, eight_at, class_in, looked_up, place_of, class_placed, class_numbered}
 use Rattle.opcodes.proofs.OfRuns.{Listed, behind, same_below}
 
 -- the numbers whose row is not the one that f has for them, where the rows are those of n, n + 1, ..
@@ -46,17 +47,37 @@ op2_rows k rows q p l h e = rows_right op2_class k rows p l e ∙ sym (eight_of_
 pub op3_rows : (k : ℕ) (rows : List ℕ) {j r : ℕ} → j ≡ 32 + k → r ≡ joined_of rows → length rows ≡ 8 → wrong_rows op3_class (k * 8) rows ≡ [] → r ≡ eight_at j
 op3_rows k rows q p l e = rows_right op3_class k rows p l e ∙ sym (eight_of_op3 k) ∙ ap eight_at (sym q)
 
--- what is looked up for n where the rows are those of f
-unfoldable pub looked : (ℕ → Class) → ℕ → Class
-looked f n = class_in (eight f (n / 8)) (n % 8)
+-- what is looked up is the definition's answer: at each number of the table by one test over all of them, and behind it the definition has none
+listed_op2 : Listed not_taken op2 op2_class
+unfolding op2_class
+listed_op2 = record { agrees = λ k. refl }
 
-pub op2_looked : (n : ℕ) → n < 256 → looked op2_class n ≡ op2_class n
-unfolding looked class_in joined_of eight op2_class op2
-op2_looked n h = same_below (looked op2_class) op2_class 256 refl n h
+listed_op3 : Listed not_taken op3 op3_class
+unfolding op3_class
+listed_op3 = record { agrees = λ k. refl }
 
-pub op3_looked : (n : ℕ) → n < 32 → looked op3_class n ≡ op3_class n
-unfolding looked class_in joined_of eight op3_class op3
-op3_looked n h = same_below (looked op3_class) op3_class 32 refl n h
+within_op2 : (n : ℕ) → n < 256 → looked_up 0 32 n ≡ op2_class n
+unfolding class_in eight_at joined_of eight op2_class op2
+within_op2 n h = same_below (looked_up 0 32) op2_class 256 refl n h
+
+within_op3 : (n : ℕ) → n < 32 → looked_up 32 4 n ≡ op3_class n
+unfolding class_in eight_at joined_of eight op3_class op3
+within_op3 n h = same_below (looked_up 32 4) op3_class 32 refl n h
+
+behind_op2 : (n : ℕ) → 256 ≤ n → looked_up 0 32 n ≡ op2_class n
+unfolding op2
+behind_op2 n h = rw (le-ltb (n / 8) 32 (omega arith)) (behind listed_op2 256 refl n h)
+
+behind_op3 : (n : ℕ) → 32 ≤ n → looked_up 32 4 n ≡ op3_class n
+unfolding op3
+behind_op3 n h = rw (le-ltb (n / 8) 4 (omega arith)) (behind listed_op3 32 refl n h)
+
+pub op2_looked_up : (n : ℕ) → looked_up 0 32 n ≡ op2_class n
+op2_looked_up n =
+    by_test_lem (ltb n 256) (λ t. within_op2 n (ltb-true n 256 t)) (λ t. behind_op2 n (ltb-false n 256 t))
+
+pub op3_looked_up : (n : ℕ) → looked_up 32 4 n ≡ op3_class n
+op3_looked_up n = by_test_lem (ltb n 32) (λ t. within_op3 n (ltb-true n 32 t)) (λ t. behind_op3 n (ltb-false n 32 t))
 
 -- ---- the same as one number
 
@@ -70,14 +91,6 @@ code_placed i = code_of (class_placed i)
 pub code_placed_lem : (i : ℕ) → i < 288 → placed i ≡ code_of (class_placed i)
 unfolding placed eight_at joined_of eight class_placed op2_class op3_class op2 op3
 code_placed_lem i h = same_below placed code_placed 288 refl i h
-
-pub place_op2 : (n : ℕ) → n < 256 → n ≡ place_of n
-unfolding place_of
-place_op2 n h = rw (lt-ltb n 256 h)
-
-pub place_op3 : (n : ℕ) → 256 ≤ n → 256 + n / 64 ≡ place_of n
-unfolding place_of
-place_op3 n h = rw (le-ltb n 256 h)
 
 pub placed_few : (n : ℕ) → n ≤ 2047 → place_of n < 288
 unfolding place_of
@@ -100,14 +113,10 @@ code_numbered n = by (ltb n 256) refl
         let q : 256 + n / 64 - 256 ≡ n / 64 = omega arith in
         rw (le-ltb (256 + n / 64) 256 m, q)
 
-listed : Listed not_taken op3 op3_class
-unfolding op3_class
-listed = record { agrees = λ k. refl }
-
 -- no number of more than eleven bits is taken
 pub code_behind : (n : ℕ) → 2047 < n → 0 ≡ code_of (class_numbered n)
 unfolding class_numbered op3
 code_behind n h =
     let m : 256 ≤ n = omega arith in
     let l : 32 ≤ n / 64 = omega arith in
-    ap code_of (behind listed 32 refl (n / 64) l) ∙ rw (le-ltb n 256 m)
+    ap code_of (behind listed_op3 32 refl (n / 64) l) ∙ rw (le-ltb n 256 m)

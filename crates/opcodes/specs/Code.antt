@@ -1,12 +1,13 @@
 -- A class as a row of the code's table has it, and eight rows as one word. Only the code's contracts and proofs use this: which class a number
 -- has is Alu's to say.
-use Rattle.std.specs.Prelude.{ℕ, zero, suc, ◌+◌, ◌-◌, ◌*◌, ◌/◌, ◌%◌, ◌^◌, cond, List, [], ◌∷◌, get_or, eqb, ltb}
+use Rattle.std.specs.Prelude.{ℕ, zero, suc, ◌+◌, ◌-◌, ◌*◌, ◌/◌, ◌%◌, ◌^◌, cond, List, [], ◌∷◌, eqb, ltb}
+use Rattle.std.specs.Int.{w64, from_le_bytes}
 use Rattle.opcodes.specs.declared.alu.Class.{Class}
 use Rattle.opcodes.specs.declared.alu.Unit.{Unit}
 use Rattle.opcodes.specs.declared.alu.Unit.TheVariants.{NotTaken, Any, Vector, Trans}
 use Rattle.opcodes.specs.declared.alu.Issue.{Issue}
 use Rattle.opcodes.specs.declared.alu.Issue.TheVariants.{Plain, Predicate, Kill, Mova, Reduction}
-use Rattle.opcodes.specs.Alu.{op2_class, op3_class, unit_number, issue_number}
+use Rattle.opcodes.specs.Alu.{op2_class, op3_class, not_taken, unit_number, issue_number}
 
 -- bits 1:0 are the unit, 4:2 the issue kind, 6:5 how many sources are read
 abbrev pub code_of : Class → ℕ
@@ -18,14 +19,8 @@ rows_from f n zero = []
 rows_from f n (suc m) = code_of (f n) ∷ rows_from f (suc n) m
 
 -- eight rows as one word, a byte each, the first lowest
-abbrev pub four_of : ℕ → ℕ → ℕ → ℕ → ℕ
-four_of a b c d = a + b * 0x100 + c * 0x1_0000 + d * 0x100_0000
-
 unfoldable pub joined_of : List ℕ → ℕ
-joined_of rows = four_of (at 0) (at 1) (at 2) (at 3) + four_of (at 4) (at 5) (at 6) (at 7) * 0x1_0000_0000
-  where
-    at : ℕ → ℕ
-    at k = get_or rows k 0
+joined_of rows = from_le_bytes w64 rows
 
 -- the rows of numbers 8 k to 8 k + 7
 unfoldable pub eight : (ℕ → Class) → ℕ → ℕ
@@ -61,3 +56,7 @@ class_of_code c = record { unit = unit_numbered (c % 4); issue = issue_numbered 
 -- the class in a row of such a word, of rows 0 to 7
 unfoldable pub class_in : ℕ → ℕ → Class
 class_in e row = class_of_code (e / 2 ^ (row * 8) % 256)
+
+-- what a table of so many eights, from eight first on, has for n
+abbrev pub looked_up : ℕ → ℕ → ℕ → Class
+looked_up first eights n = cond (ltb (n / 8) eights) (class_in (eight_at (first + n / 8)) (n % 8)) not_taken

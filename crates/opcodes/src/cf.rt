@@ -22,6 +22,7 @@ pub enum Branch {
 
 #[derive(Clone, Copy, Debug, PartialEq, Eq)]
 pub enum Control {
+    // A variant and no None, since rule 5 is asked of numbers that aren't taken, too.
     NotTaken,
     Nop,
     Fetch(FetchKind),
@@ -32,6 +33,7 @@ pub enum Control {
 }
 
 // An ALU clause opener's number: 8 ALU, 9 PUSH_BEFORE, 10 POP_AFTER, 11 POP2_AFTER. Packs mix them, so no match tells them apart.
+#[tactic(auto, unfolding(crate::specs::Numbers::cf_alu_control, crate::specs::Numbers::cf_alu))]
 pub fn cf_alu_control(number: u32) -> Control
     ensures { result ≡ numbers.cf_alu_control number }
 {
@@ -44,7 +46,7 @@ pub fn cf_alu_control(number: u32) -> Control
     }
 }
 
-// POP_AFTER pops one, POP2_AFTER two.
+// POP_AFTER pops one, POP2_AFTER two. By `saturating_sub` it takes two more machine instructions.
 fn popped_by(number: u32) -> usize
     ensures { result ≡ number - 9 }
 {
@@ -62,6 +64,7 @@ pub fn cf_control(number: u32) -> Control
     high_control(number)
 }
 
+#[tactic(auto, unfolding(crate::specs::Numbers::cf_control, crate::specs::Numbers::cf))]
 fn low_control(number: u32) -> Control
     requires { number < 15 }
     ensures { result ≡ numbers.cf_control number }
@@ -88,6 +91,7 @@ fn low_control(number: u32) -> Control
     }
 }
 
+#[tactic(auto, unfolding(crate::specs::Numbers::cf_control, crate::specs::Numbers::cf))]
 fn high_control(number: u32) -> Control
     requires { 15 ≤ number }
     ensures { result ≡ numbers.cf_control number }

@@ -25,14 +25,12 @@ pub fn fetch_taken(kind: FetchKind, number: u32) -> bool
 }
 
 // Section 9.3.
+#[tactic(auto, unfolding(crate::specs::Numbers::fetch_taken, crate::specs::Numbers::vertex_fetches))]
 fn vertex_fetch_taken(number: u32) -> bool
     ensures { result ≡ fetch_taken kinds.Vertex number }
 {
-    match number {
-        // FETCH, SEMANTIC
-        0..=1 => true,
-        _ => false,
-    }
+    // FETCH, SEMANTIC
+    matches!(number, 0..=1)
 }
 
 // Section 9.4: bit n is set where number n is taken, which are 2 to 8, 10 to 12, 14 and 16 to 31. Texture fetches mix the numbers, so a match

@@ -7,9 +7,9 @@
 // The rows stand in eights. Each is joined to one word, and a match chooses the word: of that the compiler makes a table in read-only data,
 // where an array of 256 rows would be written to the stack anew for each number (docs/MACHINE-CODE.md).
 ghost use Rattle.std.specs.Prelude.{◌≡◌, ◌<◌};
-ghost use Rattle.opcodes.specs.Code.{eight_at, joined_of, four_of};
+ghost use Rattle.opcodes.specs.Code.{eight_at, joined_of};
 
-// The unit classes.
+// Numbers for the unit classes, and below for the issue kinds, since eight rows are one word of read-only data (docs/MACHINE-CODE.md).
 pub(crate) const NOT_TAKEN: u8 = 0;
 
 pub(crate) const ANY: u8 = 1;
@@ -29,7 +29,7 @@ pub(crate) const MOVA: u8 = 3;
 
 pub(crate) const REDUCTION: u8 = 4;
 
-// A class is its unit, its issue kind times ISSUE, and the number of sources that are read times SOURCE (specs/Code.antt, codeOf).
+// A class is its unit, its issue kind times ISSUE, and the number of sources that are read times SOURCE (specs/Code.antt, code_of).
 pub(crate) const ISSUE: u8 = 4;
 
 pub(crate) const SOURCE: u8 = 32;
@@ -464,22 +464,16 @@ const OP3_24_TO_31: [u8; 8] = [
 
 // ---- looked up by eights
 
-// OP2 has so many.
-pub(crate) const OP3_EIGHTS: u32 = 32;
+pub(crate) const OP2_EIGHTS: u32 = 32;
+
+pub(crate) const OP3_EIGHTS: u32 = 4;
 
 // Eight rows as one word, the first in its lowest byte.
+#[tactic(auto, unfolding(crate::specs::Code::joined_of))]
 fn joined(rows: [u8; 8]) -> u64
     ensures { result ≡ joined_of rows }
 {
-    let low = four(rows[0], rows[1], rows[2], rows[3]);
-    let high = four(rows[4], rows[5], rows[6], rows[7]);
-    low as u64 + high as u64 * 0x1_0000_0000
-}
-
-fn four(a: u8, b: u8, c: u8, d: u8) -> u32
-    ensures { result ≡ four_of a b c d }
-{
-    a as u32 + b as u32 * 0x100 + c as u32 * 0x1_0000 + d as u32 * 0x100_0000
+    u64::from_le_bytes(rows)
 }
 
 // Eight rows: the 32 eights of OP2 in their order, then the four of OP3. One match for both, since a choice between two tables would be a branch
