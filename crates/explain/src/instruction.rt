@@ -22,8 +22,10 @@ pub(crate) trait Pack {
         ensures { (n : ℕ) → i.0 ≡ capped n → result ≡ get_or (words self.now) n 0 };
 }
 
+#[derive(Clone, Copy)]
 pub(crate) struct InWords<'a>(pub &'a [u32]);
 
+#[derive(Clone, Copy)]
 pub(crate) struct InBytes<'a>(pub &'a [u8]);
 
 impl Pack for InWords<'_> {
