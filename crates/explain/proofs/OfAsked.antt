@@ -6,6 +6,7 @@ use mathlib.Core.Bool.{Bool, true, false, cond, not, true≢false}
 use mathlib.Core.List.{List, [], ◌∷◌}
 use native.Mathlib.Omega.{arith}
 use lib.ListN.{length}
+use Rattle.std.specs.Prelude.{Option, Some, None}
 use borrow.Author.Tests.{ltb-true, leb-true}
 use Rattle.units.specs.declared.Quadwords.{Quadwords}
 use Rattle.units.specs.declared.Slots.{Slots}
@@ -26,7 +27,7 @@ use Rattle.clauses.specs.Clause as alu
 use Rattle.clauses.proofs.OfRead.{size_few}
 use Rattle.opcodes.specs.declared.cf.FetchKind.{FetchKind}
 use Rattle.section.specs.declared.Clause.{Clause}
-use Rattle.section.specs.declared.Clause.TheVariants.{NoClause, AluClause, FetchClause}
+use Rattle.section.specs.declared.Clause.TheVariants.{Alu, Fetch}
 use Rattle.section.specs.Control.{end_of}
 use Rattle.section.specs.Rules.{clause_at}
 use Rattle.apart.specs.Apart.{shared_checks, layout_checks}
@@ -58,7 +59,7 @@ module _ (card : Card) (w : List ℕ) where
 
   module _ (p : ℕ) (near : p ≤ end_of w) where
     asks :
-        (r : ℕ) (s : Slots) (k : Clause) {b : Bool} {cs : List Check} → clause_at w p ≡ k → HasSlot (length w) s k
+        (r : ℕ) (s : Slots) (k : Option Clause) {b : Bool} {cs : List Check} → clause_at w p ≡ k → HasSlot (length w) s k
         → b ≡ not (all_granted (limits_in card k) (named_in w s k)) → Each AsksNames cs → Each AsksNames (check r (Quadword (quadwords p)) s b ∷ cs)
     asks r s k {b} e i q h =
         more {c = check r (Quadword (quadwords p)) s b}
@@ -68,13 +69,13 @@ module _ (card : Card) (w : List ℕ) where
           place_is = refl;
           in_section = near;
           in_clause = subst (HasSlot (length w) s) (sym e) i;
-          broken-is = q ∙ ap (λ (j : Clause). not (all_granted (limits_in card j) (named_in w s j))) (sym e);
+          broken-is = q ∙ ap (λ (j : Option Clause). not (all_granted (limits_in card j) (named_in w s j))) (sym e);
         })
         h
 
     -- 8 and 9
     in_fetches :
-        (s : Quadwords) (n : Slots) (kind : FetchKind) → clause_at w p ≡ FetchClause s n kind
+        (s : Quadwords) (n : Slots) (kind : FetchKind) → clause_at w p ≡ Some (Fetch s n kind)
         → Each AsksNames (fetches.clause_checks kind (limits_with card 0 0) w (quadwords p) s n)
     unfolding fetches.clause_checks fetches.fetch_checks lies_in
     in_fetches s n kind k =
@@ -84,14 +85,14 @@ module _ (card : Card) (w : List ℕ) where
         each_below (fetches.fetch_checks kind (limits_with card 0 0) w (quadwords p) s) n.0
         (λ i l.
         other 8 refl
-        (asks 9 (fetch_slot (slots i)) (FetchClause s n kind) k (omega (arith, l), omega (arith, inside)) refl empty)))
+        (asks 9 (fetch_slot (slots i)) (Some (Fetch s n kind)) k (omega (arith, l), omega (arith, inside)) refl empty)))
 
     -- another rule asked of each instruction of a group
     in-others : (r : ℕ) (g : Slots) (f : ℕ → Bool) (m : ℕ) → asks_names r ≡ false → Each AsksNames (each_of r (quadwords p) g f m)
     unfolding each_of
     in-others r g f m e = each_below _ m (λ j l. other r e empty)
 
-    module _ (s : Quadwords) (n : Slots) (push : Bool) (mode0 mode1 : ℕ) (k : clause_at w p ≡ AluClause s n push mode0 mode1)
+    module _ (s : Quadwords) (n : Slots) (push : Bool) (mode0 mode1 : ℕ) (k : clause_at w p ≡ Some (Alu s n push mode0 mode1))
         (inside : 2 * (s.0 + n.0) ≤ length w) where
       -- 15 of each
       in-names :
@@ -102,7 +103,7 @@ module _ (card : Card) (w : List ℕ) where
           each_below _ m
           (λ j l.
           let e : s.0 + g.0 + j ≡ s.0 + (g.0 + j) = omega arith in
-          asks 15 (slot_behind g (slots j)) (AluClause s n push mode0 mode1) k (omega (arith, l, few), inside)
+          asks 15 (slot_behind g (slots j)) (Some (Alu s n push mode0 mode1)) k (omega (arith, l, few), inside)
           (λ i. not (all_granted (limits_with card mode0 mode1) (named (low_at w (e i)) (high_at w (e i)))))
           empty)
 
@@ -134,7 +135,7 @@ module _ (card : Card) (w : List ℕ) where
           by true e false gs r = each_joined (in_group pixel g (ltb-true g.0 n.0 e)) r
 
     in_alu :
-        (s : Quadwords) (n : Slots) (push : Bool) (mode0 mode1 : ℕ) → clause_at w p ≡ AluClause s n push mode0 mode1 → (kind : Kind)
+        (s : Quadwords) (n : Slots) (push : Bool) (mode0 mode1 : ℕ) → clause_at w p ≡ Some (Alu s n push mode0 mode1) → (kind : Kind)
         → Each AsksNames (alu.clause_checks kind push (limits_with card mode0 mode1) w (quadwords p) s n)
     unfolding alu.clause_checks alu.groups_of lies_in
     in_alu s n push mode0 mode1 k kind =
@@ -143,11 +144,11 @@ module _ (card : Card) (w : List ℕ) where
         let inside = leb-true (s.0 + n.0) (length w / 2) t in
         each_joined (in-groups s n push mode0 mode1 k (omega (arith, inside)) (alu.is_pixel kind) n.0 (slots 0)) (other 14 refl empty))
 
-    in_clause : (k : Clause) → clause_at w p ≡ k → Each AsksNames (clause_checks card w (quadwords p) k)
+    in_clause : (k : Option Clause) → clause_at w p ≡ k → Each AsksNames (clause_checks card w (quadwords p) k)
     unfolding clause_checks
-    in_clause NoClause k = empty
-    in_clause (AluClause s n push mode0 mode1) k = in_alu s n push mode0 mode1 k card.kind
-    in_clause (FetchClause s n kind) k = in_fetches s n kind k
+    in_clause None k = empty
+    in_clause (Some (Alu s n push mode0 mode1)) k = in_alu s n push mode0 mode1 k card.kind
+    in_clause (Some (Fetch s n kind)) k = in_fetches s n kind k
 
     in_first : Each AsksNames (first_checks card w (end_of w) p)
     unfolding first_checks pair_checks range_checks layout_checks shared_checks inside_checks stack_checks

@@ -5,30 +5,25 @@ use mathlib.Core.Bool.{Bool, true, false, cond, not, ◌&&◌, ◌||◌}
 use mathlib.Core.List.{List}
 use lib.Dec.{eqb}
 use lib.ListN.{length, drop}
+use Rattle.std.specs.Prelude.{Option, Some, None, Err}
 use borrow.Author.Tests.{not-true, eq-eqb, ne_eqb}
 use Rattle.laws.proofs.OfCases.{impossible}
 use Rattle.units.specs.declared.Quadwords.{Quadwords}
 use Rattle.units.specs.declared.Slots.{Slots}
-use Rattle.checks.specs.declared.AtFault.{AtFault}
-use Rattle.checks.specs.declared.AtFault.TheVariants.{NoNumber}
 use Rattle.checks.specs.declared.Explanation.{Explanation}
 use Rattle.checks.specs.declared.Place.{Place}
 use Rattle.checks.specs.declared.Place.TheVariants as place
-use Rattle.checks.specs.declared.Verdict.{Verdict}
-use Rattle.checks.specs.declared.Verdict.TheVariants.{Accepted, Refused}
+use Rattle.checks.specs.Verdict.{Verdict, Accepted, Refused}
 use Rattle.card.specs.declared.Card.{Card}
-use Rattle.card.specs.declared.CardRead.{CardRead}
-use Rattle.card.specs.declared.CardRead.TheVariants.{Whole, BadLine}
-use Rattle.card.specs.declared.CardTest.{CardTest}
-use Rattle.card.specs.declared.CardTest.TheVariants.{InRange}
-use Rattle.card.specs.Card.{card_lines, card_of}
-use Rattle.card.specs.Made.{test_of}
+use Rattle.card.specs.declared.BadLine.{BadLine}
+use Rattle.card.specs.Card.{CardRead, Whole, BadAt, card_lines, card_of}
+use Rattle.card.specs.Made.{CardTest, InRange, test_of}
 use Rattle.card.proofs.OfCard.{whole_in_range}
 use Rattle.grants.specs.Grants.{all_granted}
 use Rattle.faults.specs.Faults.{first_fault}
 use Rattle.faults.proofs.OfOperands.{Found, instruction_found, fetch_found}
 use Rattle.section.specs.declared.Clause.{Clause}
-use Rattle.section.specs.declared.Clause.TheVariants.{NoClause, AluClause, FetchClause}
+use Rattle.section.specs.declared.Clause.TheVariants.{Alu, Fetch}
 use Rattle.section.specs.Rules.{clause_at}
 use Rattle.judge.specs.Judge.{limits_in, judgement, read_judgement, judgement_of_bytes}
 use Rattle.judge.proofs.OfJudge.{judged_accepted, judged_refused}
@@ -37,20 +32,17 @@ use Rattle.input.specs.Words.{words_in}
 use Rattle.input.specs.Input.{bad_line, bad_length, right_length, by_test, pack_verdict, judged_by, without_card, behind_card, judged_of, beside_card, judged_of_files}
 use Rattle.explain.specs.Explain.{asks_names, named_in, fault_at, fault_of, explained, plain, by_read, explanation, explanation_of_bytes, pack_behind, explanation_of, explanation_of_files}
 use Rattle.explain.specs.Truth.{operands_in, FoundThere, Explains, ExplainsBytes, ExplainsPack, ExplainsInput, ExplainsFiles}
-use Rattle.explain.specs.declared.instruction.Asked.{Asked}
-use Rattle.explain.specs.declared.instruction.Asked.TheVariants.{Nothing, At}
-use Rattle.explain.specs.Code.{asked_by, fault_asked}
 use Rattle.explain.proofs.OfAsked.{GrantedAt, names_asked}
 
 -- ---- by a card's figures and a pack's words
 
 module _ (card : Card) (w : List ℕ) where
   found_in_lem :
-      (slot : Slots) (k : Clause) → all_granted (limits_in card k) (named_in w slot k) ≡ false
+      (slot : Slots) (k : Option Clause) → all_granted (limits_in card k) (named_in w slot k) ≡ false
       → Found (limits_in card k) (operands_in w slot k) (first_fault (limits_in card k) (named_in w slot k))
-  found_in_lem slot NoClause h = impossible cc
-  found_in_lem slot (AluClause start n push mode0 mode1) h = instruction_found _ _ _ h
-  found_in_lem slot (FetchClause start n kind) h = fetch_found _ kind _ _ h
+  found_in_lem slot None h = impossible cc
+  found_in_lem slot (Some (Alu start n push mode0 mode1)) h = instruction_found _ _ _ h
+  found_in_lem slot (Some (Fetch start n kind)) h = fetch_found _ kind _ _ h
 
   found_there :
       (rule : ℕ) (at : Place) (slot : Slots) → judgement card w ≡ Refused rule at slot → asks_names rule ≡ true
@@ -69,12 +61,12 @@ module _ (card : Card) (w : List ℕ) where
         limit = f.limit;
         fault_is =
             ap (fault_of card w) (e ∙ ap (λ (p : Place). Refused rule p slot) a.place_is)
-            ∙ ap (λ (x : Bool). cond x (first_fault (limits_in card (clause_at w q.0)) (named_in w slot (clause_at w q.0))) NoNumber) t
+            ∙ ap (λ (x : Bool). cond x (first_fault (limits_in card (clause_at w q.0)) (named_in w slot (clause_at w q.0))) None) t
             ∙ f.is_number;
         first = f.first;
       }
 
-  none_else : (rule : ℕ) (at : Place) (slot : Slots) → asks_names rule ≡ false → fault_of card w (Refused rule at slot) ≡ NoNumber
+  none_else : (rule : ℕ) (at : Place) (slot : Slots) → asks_names rule ≡ false → fault_of card w (Refused rule at slot) ≡ None
   none_else rule place.Whole slot e = refl
   none_else rule (place.Line n) slot e = refl
   none_else rule (place.Quadword q) slot e = rw e
@@ -99,8 +91,11 @@ module _ (card : Card) (w : List ℕ) where
 same_whole : {c d : Card} {m n : ℕ} → Whole c m ≡ Whole d n → c ≡ d
 same_whole e = cc
 
-never_both : {P : Type 0} {c : Card} {m n : ℕ} → Whole c m ≡ BadLine n → P
+never_both : {P : Type 0} {c : Card} {m : ℕ} {line : BadLine} → Whole c m ≡ Err line → P
 never_both e = impossible cc
+
+same_line : {l m : BadLine} → ◌≡◌ {A = CardRead} (Err l) (Err m) → l ≡ m
+same_line e = cc
 
 module _ (bytes w : List ℕ) where
   pub whole_card :
@@ -116,18 +111,15 @@ module _ (bytes w : List ℕ) where
   )
 
   pub bad_card :
-      {n : ℕ} {x : Explanation} → card_of bytes ≡ BadLine n → x ≡ plain (bad_line n) → (x ≡ explanation_of_bytes bytes w) × ExplainsBytes bytes w x
+      {line : BadLine} {x : Explanation} → card_of bytes ≡ Err line → x ≡ plain (bad_line line.0) → (x ≡ explanation_of_bytes bytes w) × ExplainsBytes bytes w x
   unfolding explanation_of_bytes judgement_of_bytes
-  bad_card {n} {x} h e = (
+  bad_card {line} {x} h e = (
     e ∙ ap (λ (k : CardRead). by_read k w (read_judgement k w)) (sym h),
     record {
       by_card = λ c m k. never_both (sym k ∙ h);
-      by_line = λ m k. e ∙ ap (λ (l : ℕ). plain (bad_line l)) (same_line (sym h ∙ k));
+      by_line = λ m k. e ∙ ap (λ (l : BadLine). plain (bad_line l.0)) (same_line (sym h ∙ k));
     },
   )
-    where
-      same_line : {l m : ℕ} → BadLine l ≡ BadLine m → l ≡ m
-      same_line q = cc
 
 -- ---- by a card and a pack in bytes
 
@@ -177,41 +169,6 @@ explains_files text pack =
 
 -- ---- from what the code reads
 
-module _ (rule : ℕ) (slot : Slots) where
-  tests_none : (a b : Bool) → not a && not b ≡ true → a || b ≡ false
-  tests_none true b h = impossible cc
-  tests_none false true h = impossible cc
-  tests_none false false h = refl
-
-  tests_some : (a b : Bool) → not a && not b ≡ false → a || b ≡ true
-  tests_some true b h = refl
-  tests_some false true h = refl
-  tests_some false false h = impossible cc
-
-  pub not_asked : (at : Place) → not (eqb rule 9) && not (eqb rule 15) ≡ true → Nothing ≡ asked_by (Refused rule at slot)
-  not_asked place.Whole h = refl
-  not_asked (place.Line n) h = refl
-  not_asked (place.Quadword q) h = rw (tests_none (eqb rule 9) (eqb rule 15) h)
-
-  pub asked_there : {at : Place} {q : Quadwords} → at ≡ place.Quadword q → not (eqb rule 9) && not (eqb rule 15) ≡ false → At q slot ≡ asked_by (Refused rule at slot)
-  asked_there e h = rw (e, tests_some (eqb rule 9) (eqb rule 15) h)
-
-asked_fault_is : (card : Card) (w : List ℕ) (v : Verdict) → fault_asked card w (asked_by v) ≡ fault_of card w v
-asked_fault_is card w Accepted = refl
-asked_fault_is card w (Refused rule place.Whole slot) = refl
-asked_fault_is card w (Refused rule (place.Line n) slot) = refl
-asked_fault_is card w (Refused rule (place.Quadword q) slot) = by (asks_names rule)
-  where
-    by : (t : Bool) → fault_asked card w (cond t (At q slot) Nothing) ≡ cond t (fault_at card w q.0 slot) NoNumber
-    by true = refl
-    by false = refl
-
-pub made_of :
-    (card : Card) (w : List ℕ) {v : Verdict} {a : Asked} {f : AtFault} → a ≡ asked_by v → f ≡ fault_asked card w a
-    → record { verdict = v; fault = f } ≡ explained card w v
-made_of card w {v} e h =
-    ap (λ (x : AtFault). record { verdict = v; fault = x }) (h ∙ ap (fault_asked card w) e ∙ asked_fault_is card w v)
-
 pub explained_true :
     (card : Card) (w : List ℕ) {v : Verdict} {x : Explanation} → v ≡ judgement card w → x ≡ explained card w v
     → (x ≡ explanation card w) × Explains card w x
@@ -231,7 +188,7 @@ module _ (input : List ℕ) {k : CardRead} {judged : Judged} (e : k ≡ card_of 
   input_whole {card} h q f =
       input_true (f ∙ ap (λ (p : List ℕ). explained card (words_in p) judged.verdict) q ∙ ap (λ (r : CardRead). by_read r (words_in (pack_behind input r)) judged.verdict) (sym h))
 
-  pub input_line : {n : ℕ} {x : Explanation} → k ≡ BadLine n → x ≡ plain judged.verdict → (x ≡ explanation_of input) × ExplainsInput input x
+  pub input_line : {line : BadLine} {x : Explanation} → k ≡ Err line → x ≡ plain judged.verdict → (x ≡ explanation_of input) × ExplainsInput input x
   input_line h f = input_true (f ∙ ap (λ (r : CardRead). by_read r (words_in (pack_behind input r)) judged.verdict) (sym h))
 
 module _ (text pack : List ℕ) {k : CardRead} {judged : Judged} (e : k ≡ card_of text) (j : judged ≡ judged_of_files text pack) where
@@ -246,5 +203,5 @@ module _ (text pack : List ℕ) {k : CardRead} {judged : Judged} (e : k ≡ card
       → (x ≡ explanation_of_files text pack) × ExplainsFiles text pack x
   files_whole h f = files_true (f ∙ ap (λ (r : CardRead). by_read r (words_in pack) judged.verdict) (sym h))
 
-  pub files_line : {n : ℕ} {x : Explanation} → k ≡ BadLine n → x ≡ plain judged.verdict → (x ≡ explanation_of_files text pack) × ExplainsFiles text pack x
+  pub files_line : {line : BadLine} {x : Explanation} → k ≡ Err line → x ≡ plain judged.verdict → (x ≡ explanation_of_files text pack) × ExplainsFiles text pack x
   files_line h f = files_true (f ∙ ap (λ (r : CardRead). by_read r (words_in pack) judged.verdict) (sym h))

@@ -3,17 +3,15 @@ use mathlib.Core.Path.{◌≡◌, refl, ap, sym, ◌∙◌}
 use mathlib.Core.Bool.{Bool, true, false, cond}
 use mathlib.Core.List.{List}
 use Prim.Native.Nat.{ℕ, suc, ◌-◌, ◌≤◌}
+use Rattle.std.specs.Prelude.{Err}
 use native.Mathlib.Omega.{arith}
 use borrow.Author.Tests.{ltb-true, ltb-false}
 use lib.Dec.{eqb, ltb}
 use lib.ListN.{length, take, drop}
 use lib.Seq.{take_all}
-use Rattle.card.specs.Card.{card_lines, card_of}
-use Rattle.card.specs.Made.{test_of}
+use Rattle.card.specs.Card.{CardRead, Whole, card_lines, card_of}
+use Rattle.card.specs.Made.{InRange, test_of}
 use Rattle.card.specs.declared.Card.{Card}
-use Rattle.card.specs.declared.CardRead.{CardRead}
-use Rattle.card.specs.declared.CardRead.TheVariants.{Whole, BadLine}
-use Rattle.card.specs.declared.CardTest.TheVariants.{InRange}
 use Rattle.card.proofs.OfCard.{whole_in_range}
 use Rattle.card.proofs.OfCut.{drop_take, card_cut, whole_short}
 use Rattle.report.specs.Explanation.{explanation_bytes}
@@ -55,7 +53,7 @@ enough_explained input all h =
         let short = whole_short input card n e in
         ap (λ (p : List ℕ). explained card (words_in p) (pack_verdict card (drop n input))) (drop_take n all input)
         ∙ pack_cut card (whole_in_range input card n e) (drop n input) (all - n) (omega arith)
-    by (BadLine n) e = refl
+    by (Err bad) e = refl
 
 pub enough : (input : List ℕ) (all : ℕ) → 65610 ≤ all → lines_of_input (take all input) ≡ lines_of_input input
 unfolding lines_of_input
@@ -84,7 +82,7 @@ module _ (text pack : List ℕ) where
       by : (known : CardRead) → card_of text ≡ known
           → by_read known (words_in (take all pack)) (beside_card text pack known).verdict ≡ by_read known (words_in pack) (beside_card text pack known).verdict
       by (Whole card n) e = by_end card (whole_in_range text card n e) (eqb n (length text))
-      by (BadLine n) e = refl
+      by (Err bad) e = refl
 
   pub pack_enough : (all : ℕ) → 65537 ≤ all → lines_of_files text (take all pack) ≡ lines_of_files text pack
   unfolding lines_of_files
