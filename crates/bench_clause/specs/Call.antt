@@ -1,7 +1,6 @@
 -- What the numbers of a call stand for, and its answer as a number.
 use Rattle.std.specs.Prelude.{ℕ, ◌+◌, ◌*◌, ◌/◌, ◌%◌, ◌^◌, cond, eqb}
-use Rattle.checks.specs.declared.Verdict.{Verdict}
-use Rattle.checks.specs.Verdict.{verdict_number, verdict_slot}
+use Rattle.checks.specs.Verdict.{Verdict, verdict_number, verdict_slot}
 use Rattle.card.specs.declared.Kind.{Kind}
 use Rattle.card.specs.declared.Kind.TheVariants.{Pixel, Vertex, Geometry}
 use Rattle.grants.specs.declared.Limits.{Limits}

@@ -16,6 +16,7 @@ use units::{Quadwords, Slots};
 
 // The clause of `count` slots from quadword `start` on. Kind, modes and the answer: specs/Call.antt.
 #[unsafe(no_mangle)]
+#[tactic(auto, unfolding(crate::specs::Call::limits_of))]
 pub extern "C" fn zlatomruk_alu_clause(
     words: &[u32],
     start: usize,
@@ -36,35 +37,33 @@ pub extern "C" fn zlatomruk_alu_clause(
         mode0: modes % 4,
         mode1: modes / 4 % 4,
     };
-    let whose = kind_of(kind);
-    let v = clauses::alu_clause(
+    pack(clauses::alu_clause(
         words,
         Quadwords(0),
         Quadwords(start),
         Slots(count),
         push_before != 0,
-        whose,
+        kind_of(kind),
         limits,
-    );
-    pack(v)
+    ))
 }
 
+#[tactic(auto, unfolding(crate::specs::Call::kind_of))]
 fn kind_of(number: u32) -> Kind
     ensures { result ≡ kind_of number }
 {
-    if number == 0 {
-        return Kind::Pixel;
+    match number {
+        0 => Kind::Pixel,
+        1 => Kind::Vertex,
+        _ => Kind::Geometry,
     }
-    if number == 1 {
-        return Kind::Vertex;
-    }
-    Kind::Geometry
 }
 
+#[tactic(auto, unfolding(crate::specs::Call::answer_of))]
 fn pack(v: Verdict) -> u64
     ensures { result ≡ answer_of v }
 {
     let number = checks::verdict_number(v) as u64;
-    let slot = (checks::verdict_slot(v) % 0x1_0000) as u64;
+    let slot = checks::verdict_slot(v) as u64 % 0x1_0000;
     number + slot * 0x1_0000_0000
 }
