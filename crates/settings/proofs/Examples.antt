@@ -1,30 +1,24 @@
--- Worked examples, by computation: keys taken apart, settings as text, and read.
+-- Worked examples, by computation: keys of names, settings as text, and read.
 use mathlib.Core.Path.{◌≡◌, refl}
 use mathlib.Core.Bool.{true, false}
-use mathlib.Core.List.{List, [], ◌∷◌}
+use mathlib.Core.List.{List, [], ◌∷◌, map}
+use Prim.Native.String.{String}
 use Prim.Native.Nat.{ℕ}
 use Rattle.ascii.specs.Ascii.{ascii}
 use Rattle.ascii.specs.Decimal.{decimal, decimal_within, all_digits, digits_value}
 use Rattle.card.specs.Text.{begins_with, same_as, is_decimal, number_of, number_in}
-use Rattle.report.specs.Report.{pieces_of}
-use Rattle.report.specs.Settings.{key_of, keys_in, setting_lines, settings_text}
-use Rattle.settings.specs.Setting.{setting_from, setting_of, changed_by}
+use Rattle.report.specs.Settings.{key_of, keys_for, setting_lines, settings_text}
+use Rattle.settings.specs.Setting.{NoName, NoNumber, Is, setting_from, setting_of, changed_by}
 use Rattle.settings.specs.ReadBack.{good_keys}
-use Rattle.settings.specs.declared.Setting.TheVariants.{NoName, NoNumber, Is}
 
 -- ---- keys: X is the start of XY, and no line takes the one for the other
 
 abbrev keys : List (List ℕ)
 keys = key_of "X" ∷ key_of "XY" ∷ key_of "MODE" ∷ []
 
-taken_apart : keys_in (ascii "X=XY=MODE=") ≡ keys
-unfolding pieces_of
-taken_apart = refl
-
--- the last has no equals sign
-unended : keys_in (ascii "X=XY") ≡ ascii "X=" ∷ ascii "XY" ∷ []
-unfolding pieces_of
-unended = refl
+-- of names as the code has them
+named : keys_for (map (λ (name : String). record { ref_ptr = (0, 0); now = ascii name }) ("X" ∷ "XY" ∷ "MODE" ∷ [])) ≡ keys
+named = refl
 
 good : good_keys keys ≡ true
 unfolding same_as

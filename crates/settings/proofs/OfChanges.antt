@@ -9,10 +9,8 @@ use lib.ListN.{length, get_or, take, set, length-set}
 use lib.Seq.{take_all, take-suc-set}
 use Rattle.ascii.specs.Decimal.{decimal}
 use Rattle.report.specs.Settings.{setting_lines}
-use Rattle.settings.specs.Setting.{setting_of, changed_to, changed_by}
+use Rattle.settings.specs.Setting.{Setting, Is, setting_of, changed_to, changed_by}
 use Rattle.settings.specs.ReadBack.{good_keys}
-use Rattle.settings.specs.declared.Setting.{Setting}
-use Rattle.settings.specs.declared.Setting.TheVariants.{Is}
 use Rattle.settings.proofs.OfReading.{read_back}
 
 -- ---- each line is read as its key set to its value

@@ -1,33 +1,30 @@
 -- A setting is read key by key; and a key and a number that are written are read back, since no good key begins another. Assumes nothing.
 use mathlib.Core.Path.{◌≡◌, refl, sym, ap, ap₂, ◌∙◌}
-use mathlib.Core.Bool.{true, false, not, ◌&&◌, false≢true}
+use mathlib.Core.Bool.{Bool, true, false, cond, not, ◌&&◌, false≢true}
+use Rattle.std.proofs.Math.Bool.{and_assoc}
 use mathlib.Core.List.{List, [], ◌∷◌, ◌++◌}
-use mathlib.Core.Option.{Option, none, some}
+use Rattle.std.specs.Prelude.{Option, None, Some, MatchOption, option_copied}
+use Rattle.std.specs.Borrow.{Bor}
+use Rattle.std.specs.Cmp.Lexicographic.{pointwise}
+use Rattle.std.proofs.lemmas.Option.{none-some, cond_some}
 use Prim.Native.Nat.{ℕ, zero, suc, ◌+◌, ◌-◌, ◌^◌, ◌≤◌, ◌<◌}
 use native.Mathlib.Nat.{add-zero, zero-add}
 use native.Mathlib.Numerals.{add-one}
 use native.Mathlib.Omega.{arith}
 use borrow.Author.Tests.{eq-eqb, eqb-true, eqb-false, le-leb, not-true}
 use lib.Dec.{eqb, leb}
-use lib.ListN.{length, get_or, take, drop, drop_of_length-le}
-use lib.Seq.{drop-append_seam}
+use lib.ListN.{length, get_or, take, drop, drop_of_length-le, length-append}
+use lib.Seq.{drop-append_seam, drop-cons, drop-drop}
 use Rattle.laws.proofs.OfTests.{both, both_hold, by_test_lem}
 use Rattle.laws.proofs.OfCases.{impossible}
-use Rattle.laws.proofs.OfLists.{to_the_end}
+use Rattle.ascii.specs.Ascii.{ascii}
 use Rattle.ascii.specs.Decimal.{decimal}
-use Rattle.card.specs.Text.{begins_with, same_as, number_in, of_32_bits, number_read}
-use Rattle.card.specs.declared.Number.{Number}
-use Rattle.card.specs.declared.Number.TheVariants as number
-use Rattle.card.proofs.OfLines.{part}
-use Rattle.card.proofs.OfKeys.{begins_length}
+use Rattle.card.specs.Text.{begins_with, same_as, number_in, of_32_bits}
+use Rattle.card.proofs.OfKeys.{begins_as}
 use Rattle.card.proofs.OfWritten.{begins_own, allowed_read}
-use Rattle.report.specs.Report.{pieces_of}
-use Rattle.report.specs.Settings.{equals_sign, keys_in}
-use Rattle.report.proofs.OfSettings.{Key, key_size}
-use Rattle.settings.specs.Setting.{value_read, setting_from, setting_of}
+use Rattle.report.specs.Settings.{equals_sign, keys_for}
+use Rattle.settings.specs.Setting.{Setting, Is, NoName, NoNumber, value_read, setting_from, setting_of}
 use Rattle.settings.specs.ReadBack.{is_key, none_is, good_keys, ReadBack}
-use Rattle.settings.specs.declared.Setting.{Setting}
-use Rattle.settings.specs.declared.Setting.TheVariants.{NoName, NoNumber, Is}
 
 -- ---- no good key begins another
 
@@ -96,6 +93,12 @@ as_said keys bytes e = (e, λ index n g l h b. e ∙ ap (setting_of keys) b ∙ 
 
 -- ---- an index is one of a key
 
+-- an answer says what it was made of
+is_parts : {i j m n : ℕ} → Is i m ≡ Is j n → (i ≡ j) × (m ≡ n)
+is_parts {i} {j} {m} {n} e =
+    let same : (i, m) ≡ (j, n) = cc in
+    (ap (λ (p : ℕ × ℕ). p.0) same, ap (λ (p : ℕ × ℕ). p.1) same)
+
 index_from : (from : ℕ) (keys : List (List ℕ)) (bytes : List ℕ) {index n : ℕ} → setting_from from keys bytes ≡ Is index n → index < from + length keys
 unfolding setting_from
 index_from from [] bytes e = impossible cc
@@ -105,64 +108,97 @@ index_from from (k ∷ keys) bytes {index} {n} e =
     (λ t. let later = index_from (suc from) keys bytes (rw t at e) in omega arith)
   where
     here : (o : Option ℕ) → value_read from o ≡ Is index n → index < from + suc (length keys)
-    here none p = impossible cc
-    here (some m) p = let same : from ≡ index = cc in omega arith
+    here None p = impossible cc
+    here (Some m) p = let same = is_parts p in omega (arith, same.0)
 
 pub index_within : (keys : List (List ℕ)) (bytes : List ℕ) {index n : ℕ} → setting_of keys bytes ≡ Is index n → index < length keys
 index_within keys bytes e = let below = index_from 0 keys bytes e in omega arith
 
--- ---- the number behind a key, by the code's answer
-
-module _ (index : ℕ) (o : Option ℕ) {r : Number} (p : r ≡ number_read o) where
-  pub value_is : {n : ℕ} → r ≡ number.Is n → Is index n ≡ value_read index o
-  value_is {n} q = by o p
-    where
-      by : (o : Option ℕ) → r ≡ number_read o → Is index n ≡ value_read index o
-      by none p = impossible cc
-      by (some m) p = let same : n ≡ m = cc in ap (Is index) same
-
-  pub value_wrong : r ≡ number.Wrong → NoNumber ≡ value_read index o
-  value_wrong q = by o p
-    where
-      by : (o : Option ℕ) → r ≡ number_read o → NoNumber ≡ value_read index o
-      by none p = refl
-      by (some m) p = impossible cc
-
 -- ---- key by key, as a loop reads
 
--- the keys before `at` do not begin the setting, and there are `index` of them
-pub record Searched (keys bytes : List ℕ) (index at : ℕ) : Type 0 where
-  pub within : at ≤ length keys
-  pub fewer : index ≤ at
-  pub left : setting_of (keys_in keys) bytes ≡ setting_from index (keys_in (drop at keys)) bytes
+-- the keys before `index` do not begin the setting
+pub record Searched (names : List (Bor (List ℕ))) (bytes : List ℕ) (index : ℕ) : Type 0 where
+  pub left : setting_of (keys_for names) bytes ≡ setting_from index (keys_for (drop index names)) bytes
 
-pub none_searched : (keys bytes : List ℕ) → Searched keys bytes 0 0
-none_searched keys bytes = record { within = omega arith; fewer = omega arith; left = refl }
+pub none_searched : (names : List (Bor (List ℕ))) (bytes : List ℕ) → Searched names bytes 0
+none_searched names bytes = record { left = refl }
 
-module _ {keys bytes : List ℕ} {index at : ℕ} (w : Searched keys bytes index at) where
-  pub all_searched : length keys ≤ at → NoName ≡ setting_of (keys_in keys) bytes
-  unfolding setting_from pieces_of
-  all_searched h = sym (w.left ∙ ap (λ l. setting_from index (keys_in l) bytes) (drop_of_length-le keys h))
+-- the key of a name
+abbrev pub key_for : Bor (List ℕ) → List ℕ
+key_for name = name.now ++ ascii "="
 
-  module _ (end : ℕ) (k : Key keys at end) where
-    abbrev pub key : List ℕ
-    key = take (end - at) (drop at keys)
+-- what stands behind a key, as the code answers it
+abbrev pub behind_key : List ℕ → List ℕ → Option (List ℕ)
+behind_key key bytes = cond (begins_with key bytes) (Some (drop (length key) bytes)) None
 
-    pub key-other : begins_with key bytes ≡ false → Searched keys bytes (index + 1) end
+module _ {names : List (Bor (List ℕ))} {bytes : List ℕ} {index : ℕ} (w : Searched names bytes index) where
+  pub all_searched : length names ≤ index → NoName ≡ setting_of (keys_for names) bytes
+  unfolding setting_from
+  all_searched h = sym (w.left ∙ ap (λ (l : List (Bor (List ℕ))). setting_from index (keys_for l) bytes) (drop_of_length-le names h))
+
+  module _ (other : Bor (List ℕ)) (h : index < length names) where
+    abbrev key : List ℕ
+    key = key_for (get_or names index other)
+
+    split : setting_of (keys_for names) bytes ≡ cond (begins_with key bytes) (value_read index (number_in of_32_bits (drop (length key) bytes))) (setting_from (suc index) (keys_for (drop (suc index) names)) bytes)
     unfolding setting_from
-    key-other b =
+    split = w.left ∙ ap (λ (l : List (Bor (List ℕ))). setting_from index (keys_for l) bytes) (drop-cons names index other h)
+
+    pub key_other : None ≡ behind_key key bytes → Searched names bytes (index + 1)
+    key_other e =
         record {
-          within = k.within;
-          fewer = omega (arith, w.fewer, k.some);
-          left = w.left ∙ rw (k.split, b, add-one);
+          left =
+              split
+              ∙ by (begins_with key bytes) e
+              ∙ ap (λ (i : ℕ). setting_from i (keys_for (drop i names)) bytes) (sym (add-one index));
         }
+      where
+        by : (x : Bool) → None ≡ cond x (Some (drop (length key) bytes)) None
+            → cond x (value_read index (number_in of_32_bits (drop (length key) bytes))) (setting_from (suc index) (keys_for (drop (suc index) names)) bytes)
+            ≡ setting_from (suc index) (keys_for (drop (suc index) names)) bytes
+        by true e = absurd (none-some (drop (length key) bytes) e)
+        by false e = refl
 
-    pub behind-key : begins_with key bytes ≡ true → end - at ≤ length bytes
-    behind-key b = omega (arith, key_size k, begins_length key bytes b)
+    module _ {value : List ℕ} (e : Some value ≡ behind_key key bytes) where
+      found_key : setting_of (keys_for names) bytes ≡ value_read index (number_in of_32_bits value)
+      found_key =
+          let c = cond_some (begins_with key bytes) (drop (length key) bytes) value (sym e) in
+          split ∙ rw (c.0, c.1)
 
-    pub key-found : {r : Setting} → begins_with key bytes ≡ true → r ≡ value_read index (number_in of_32_bits (part bytes (end - at))) → r ≡ setting_of (keys_in keys) bytes
-    unfolding setting_from
-    key-found b e =
-        e
-        ∙ ap (λ l. value_read index (number_in of_32_bits l)) (to_the_end (end - at) bytes ∙ ap (λ i. drop i bytes) (sym (key_size k)))
-        ∙ sym (w.left ∙ rw (k.split, b))
+      pub key_number : {n : ℕ} → Some n ≡ number_in of_32_bits value → Is index n ≡ setting_of (keys_for names) bytes
+      key_number p = sym (found_key ∙ ap (value_read index) (sym p))
+
+      pub key_no_number : None ≡ number_in of_32_bits value → NoNumber ≡ setting_of (keys_for names) bytes
+      key_no_number p = sym (found_key ∙ ap (value_read index) (sym p))
+
+-- ---- a name and its equals sign, one behind the other
+
+sign_behind : (name bytes : List ℕ) → begins_with (name ++ ascii "=") bytes ≡ begins_with name bytes && begins_with (ascii "=") (drop (length name) bytes)
+unfolding begins_with
+sign_behind [] bytes = refl
+sign_behind (b ∷ name) [] = refl
+sign_behind (b ∷ name) (c ∷ bytes) = ap (λ (x : Bool). eqb c b && x) (sign_behind name bytes) ∙ sym (and_assoc (eqb c b) (begins_with name bytes) (begins_with (ascii "=") (drop (length name) bytes)))
+
+module _ (name bytes : List ℕ) where
+  rest_behind : drop (length (name ++ ascii "=")) bytes ≡ drop 1 (drop (length name) bytes)
+  rest_behind = ap (λ (n : ℕ). drop n bytes) (omega (arith, length-append name (ascii "="))) ∙ sym (drop-drop 1 (length name) bytes)
+
+  pub no_name_there : pointwise eqb (take (length name) bytes) name ≡ false → None ≡ behind_key (name ++ ascii "=") bytes
+  no_name_there h = sym (rw (sign_behind name bytes, sym (begins_as name bytes) ∙ h))
+
+  module _ (h : pointwise eqb (take (length name) bytes) name ≡ true) where
+    pub no_sign_there : pointwise eqb (take 1 (drop (length name) bytes)) (ascii "=") ≡ false → None ≡ behind_key (name ++ ascii "=") bytes
+    no_sign_there k =
+        sym (rw (sign_behind name bytes, sym (begins_as name bytes) ∙ h, sym (begins_as (ascii "=") (drop (length name) bytes)) ∙ k))
+
+    pub sign_there : pointwise eqb (take 1 (drop (length name) bytes)) (ascii "=") ≡ true → Some (drop 1 (drop (length name) bytes)) ≡ behind_key (name ++ ascii "=") bytes
+    sign_there k =
+        sym (rw (sign_behind name bytes, sym (begins_as name bytes) ∙ h, sym (begins_as (ascii "=") (drop (length name) bytes)) ∙ k) (ap Some rest_behind))
+
+    -- as the library answers for the equals sign
+    pub sign_read : {rest : List ℕ} → rest ≡ drop (length name) bytes → (r : Option (Bor (List ℕ)))
+        → MatchOption r (pointwise eqb (take 1 rest) (ascii "=") ≡ false)
+            (λ x. (pointwise eqb (take 1 rest) (ascii "=") ≡ true) × (x.now ≡ drop 1 rest) × (length x.now + 1 ≡ length rest))
+        → option_copied r ≡ behind_key (name ++ ascii "=") bytes
+    sign_read e None m = no_sign_there (rw e at m)
+    sign_read e (Some x) m = ap Some (m.1 ∙ ap (λ (l : List ℕ). drop 1 l) e) ∙ sign_there (rw e at m.0)
