@@ -9,31 +9,24 @@ ghost use Rattle.instructions.specs.Instruction as instruction;
 ghost use Rattle.fetches.specs.Fetches as fetch;
 ghost use Rattle.formats.specs.Fields.{◌of◌, FETCH_INST};
 ghost use Rattle.faults.specs.Faults.{at_fault, first_fault};
-ghost use Rattle.faults.specs.Code.{named_by, third_names, source_limit};
+ghost use Rattle.faults.specs.Code.{source_limit};
 
 use bits::read;
 use checks::NotGranted;
 use formats::fields;
 use grants::Limits;
+use instructions::Source;
 use opcodes::cf::FetchKind;
 
 // Rule 15 on one instruction: destination, then sources.
-#[tactic(auto, using(crate::proofs::OfFaults::joined_fault, crate::proofs::OfFaults::named_by_lem), unfolding(instructions::specs::Instruction::named))]
+#[tactic(auto, using(crate::proofs::OfFaults::joined_fault, instructions::proofs::OfInstruction::third_names), unfolding(instructions::specs::Instruction::named))]
 pub fn instruction_fault(limits: Limits, low: u32, high: u32) -> Option<NotGranted>
     ensures { result ≡ first_fault limits (instruction.named low high) }
 {
     let destination = destination_fault(limits, high);
-    let first = source_fault(
-        limits,
-        read(low, fields::SRC0_SEL),
-        read(low, fields::SRC0_REL),
-    );
-    let second = source_fault(
-        limits,
-        read(low, fields::SRC1_SEL),
-        read(low, fields::SRC1_REL),
-    );
-    let third = third_source_fault(limits, high);
+    let [first, second, third] = instructions::sources(low, high).map(|source| source_fault(
+        limits, source,
+    ));
     destination.or(first).or(second).or(third)
 }
 
@@ -52,10 +45,7 @@ pub fn fetch_fault(kind: FetchKind, limits: Limits, word0: u32, word1: u32) -> O
 fn unless(granted: bool, found: u32, limit: usize) -> Option<NotGranted>
     ensures { result ≡ cond granted None (at_fault found limit) }
 {
-    if granted {
-        return None;
-    }
-    Some(NotGranted {
+    (!granted).then_some(NotGranted {
         found: found as usize,
         limit,
     })
@@ -76,17 +66,17 @@ fn destination_fault(limits: Limits, high: u32) -> Option<NotGranted>
     )
 }
 
-#[tactic(auto, unfolding(crate::specs::Faults::first_fault))]
-fn source_fault(limits: Limits, sel: u32, rel: u32) -> Option<NotGranted>
-    ensures { result ≡ first_fault limits (named_by sel rel) }
+#[tactic(auto, unfolding(crate::specs::Faults::first_fault, instructions::specs::Instruction::names_of, instructions::specs::Instruction::is_relative))]
+fn source_fault(limits: Limits, source: Source) -> Option<NotGranted>
+    ensures { result ≡ first_fault limits (instruction.names_of source) }
 {
-    if rel != 0 {
+    if source.rel != 0 {
         return None;
     }
     unless(
-        grants::source_granted(limits, sel),
-        sel,
-        source_limit(limits, sel),
+        grants::source_granted(limits, source.sel),
+        source.sel,
+        source_limit(limits, source.sel),
     )
 }
 
@@ -94,31 +84,12 @@ fn source_fault(limits: Limits, sel: u32, rel: u32) -> Option<NotGranted>
 fn source_limit(limits: Limits, sel: u32) -> usize
     ensures { result ≡ source_limit limits sel }
 {
-    if sel < 128 {
-        return limits.gprs as usize;
+    match sel {
+        0..=127 => limits.gprs as usize,
+        128..=159 => 128 + grants::locked_by(limits.mode0) as usize,
+        160..=191 => 160 + grants::locked_by(limits.mode1) as usize,
+        _ => 256 + limits.consts as usize,
     }
-    if sel < 160 {
-        return 128 + grants::locked_by(limits.mode0) as usize;
-    }
-    if sel < 192 {
-        return 160 + grants::locked_by(limits.mode1) as usize;
-    }
-    256 + limits.consts as usize
-}
-
-// Only an OP3 has a third source.
-#[tactic(auto, using(crate::proofs::OfFaults::named_by_lem), unfolding(crate::specs::Faults::first_fault))]
-fn third_source_fault(limits: Limits, high: u32) -> Option<NotGranted>
-    ensures { result ≡ first_fault limits (third_names high) }
-{
-    if !instructions::is_op3(high) {
-        return None;
-    }
-    source_fault(
-        limits,
-        read(high, fields::SRC2_SEL),
-        read(high, fields::SRC2_REL),
-    )
 }
 
 // A semantic fetch looks its destination up, and names none.
