@@ -1,8 +1,10 @@
 -- Settings put into a row: one, by what was read of it; and one after the other, as the loop does. Assumes nothing.
-use Rattle.std.proofs.Common.{◌≡◌, refl, sym, ap, subst, ◌∙◌, ℕ, suc, ◌+◌, ◌-◌, ◌≤◌, ◌<◌, List, [], ◌∷◌, length, set, Option, Some, None, Result, Ok, Err, ⊤, OnOk, arith, length-drop}
+use Rattle.std.proofs.Common.{◌≡◌, refl, sym, ap, subst, ◌∙◌, ℕ, suc, ◌+◌, ◌-◌, ◌≤◌, ◌<◌, List, [], ◌∷◌, length, set, Option, Some, None, Result, Ok, Err, OnOk, arith, length-drop}
+use Rattle.std.specs.Prelude.{⊤}
 use Rattle.std.specs.List.{before_first, after_first, position_or_len}
 use Rattle.settings.specs.Setting.{Setting, Is, setting_of, changed_to, changed, changed_by}
 use Rattle.settings.proofs.OfReading.{index_within}
+use Rattle.fetch_codec.specs.declared.Fetch.{Fetch}
 use Rattle.codec_for_c.specs.FetchValues.{fetch_in}
 use Rattle.fetch_text.specs.declared.Fault.{Fault}
 use Rattle.fetch_text.specs.declared.EditError.{EditError}
@@ -77,17 +79,14 @@ module _ {text first row rest : List ℕ} (w : Editing text first row rest) wher
   unfolding first_fault changed_by lines_in
   all_put h = by rest h w.faults w.values
     where
-      f = fetch_in row
-      g = fetch_in first
-
       by : (s : List ℕ) → length s ≡ 0
-          → first_fault g 0 (lines_in text) ≡ first_fault g (length text - length s) (lines_in s)
-          → changed_by (keys_of g) (values_of g) (lines_in text) ≡ changed_by (keys_of g) (values_of f) (lines_in s)
+          → first_fault (fetch_in first) 0 (lines_in text) ≡ first_fault (fetch_in first) (length text - length s) (lines_in s)
+          → changed_by (keys_of (fetch_in first)) (values_of (fetch_in first)) (lines_in text) ≡ changed_by (keys_of (fetch_in first)) (values_of (fetch_in row)) (lines_in s)
           → AllPut first row text (Ok (record {}))
       by [] h faults values =
           record {
             told = sym (ap unless faults);
-            put = record { holds = w.holds; form = w.same; fetch = sym (fetch_itself f) ∙ (λ i. fetch_in (w.same i ∷ sym values i)) };
+            put = record { holds = w.holds; form = w.same; fetch = sym (fetch_itself (fetch_in row)) ∙ (λ i. fetch_in (w.same i ∷ sym values i)) };
           }
       by (b ∷ s) h faults values = absurd (omega arith)
 

@@ -45,7 +45,6 @@ use Rattle.fetch_text.specs.Edit.{lines_in, fault_of, or_later, first_fault, edi
 use Rattle.fetch_text.specs.Code.{AllPut}
 use Rattle.fetch_text.proofs.OfForms.{form, keys_same, kind_same, fault_same, length_same, keys_count, widths_count, values_row, fetch_itself, fits_all}
 use Rattle.fetch_text.proofs.OfLines.{feedless_keys, lines_written}
-use Rattle.fetch_text.proofs.OfRows.{taken_row}
 
 -- ---- the lines of a fetch
 
@@ -181,17 +180,14 @@ module _ (f g : Fetch) (same : form f ≡ form g) (can : encodable g ≡ true) w
 
 -- a fetch that stands there is of the clause's kind, and lies in the words
 kind_of_lem : (k : FetchKind) (w0 w1 w2 : ℕ) → form_kind (fetch_of k w0 w1 w2) ≡ k
-unfolding vertex_of
 kind_of_lem Texture w0 w1 w2 = refl
 kind_of_lem Vertex w0 w1 w2 = by_test_lem (is_semantic Vertex (FETCH_INST of w0)) (λ t. rw t) (λ t. rw t)
 
 module _ (clause : Clause) (l : List ℕ) (start : Words) (f : Fetch) (e : decode_of clause l start ≡ Ok f) where
   taken_room : room 4 l start.0 ≡ true
-  unfolding decode_of
   taken_room = by_test_lem (room 4 l start.0) (λ t. t) (λ t. let z : Err Outside ≡ Ok f = rw t at e in impossible cc)
 
   taken_kind : kind_of clause ≡ form_kind f
-  unfolding decode_of four_of
   taken_kind =
       let w0 = get_or l start.0 0 in
       let w1 = get_or l (start.0 + 1) 0 in
@@ -236,7 +232,7 @@ module _ (clause : Clause) (l : List ℕ) (start : Words) (text : List ℕ) wher
           words_after =
               sym (ap (λ (d : Decoded). edited_words d text l start) is ∙ ap (λ (o : Option EditError). words_with o (edited g (lines_in text)) l start) wrong);
           promised = record {
-            decodes = λ f h d. absurd d;
+            decodes = λ f h d. absurd cc;
             read_back = λ f h k same can t.
                 let f_is = same_fetch k is in
                 let right = ap (λ (x : Fetch). first_fault x 0 (lines_in text)) (sym f_is) ∙ ap (λ (x : List ℕ). first_fault f 0 (lines_in x)) t ∙ text_right f h same can in
@@ -249,7 +245,6 @@ module _ (clause : Clause) (l : List ℕ) (start : Words) (text : List ℕ) wher
     pub kept_done :
         {after : List ℕ} {t : ⊤} → first_fault g 0 (lines_in text) ≡ None → form (edited g (lines_in text)) ≡ form g → encodable (edited g (lines_in text)) ≡ true
         → after ≡ encode_words (edited g (lines_in text)) l start → Kept (Ok t) after
-    unfolding write_answer
     kept_done {after} right same can words =
         let h = edited g (lines_in text) in
         let done : encode_answer h l start ≡ Done = rw (can, taken_room clause l start g is) in

@@ -1,6 +1,8 @@
 -- What the private functions ask of each other and answer; no public contract reaches it.
-use Rattle.std.specs.Prelude.{ℕ, suc, ◌≡◌, true, List, length, set, Result, OnOk, ⊤}
+use Rattle.std.specs.Prelude.{ℕ, suc, ◌≡◌, true, List, length, set, Result, Ok, Err, OnOk, ⊤}
+use Rattle.microcode.specs.declared.DecodeError.{DecodeError}
 use Rattle.fetch_codec.specs.Fetch.{encodable}
+use Rattle.fetch_codec.specs.Buffer.{Decoded}
 use Rattle.codec_for_c.specs.Values.{row_length, form_of}
 use Rattle.codec_for_c.specs.FetchValues.{is_fetch, fetch_values, fetch_in}
 use Rattle.settings.specs.Setting.{Is, setting_of, changed}
@@ -14,6 +16,12 @@ pub record Holds (row : List ℕ) : Type 0 where
   pub long : length row ≡ row_length
   pub is_a_fetch : is_fetch row ≡ true
   pub can : encodable (fetch_in row) ≡ true
+
+-- it holds the fetch that was decoded, where one was
+abbrev pub RowRead : Decoded → Result (List ℕ) DecodeError → Type 0
+RowRead (Err e) r = r ≡ Err e
+RowRead (Ok f) (Ok row) = Holds row × (fetch_in row ≡ f)
+RowRead (Ok f) (Err e) = ⊥
 
 -- a number was put into the field of an index, and what is wrong with that
 pub record NumberPut (row after : List ℕ) (index n : ℕ) (answer : Result ⊤ Fault) : Type 0 where

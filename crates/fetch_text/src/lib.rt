@@ -111,8 +111,7 @@ pub fn write_fetch(clause: Clause, words: &[u32], start: Words, out: &mut [u8]) 
     ensures value { result ≡ shown_of (decode_of clause words.now start) out.old }
     ensures out_after { out.new ≡ shown_after (decode_of clause words.now start) out.old }
 {
-    let mut row = [0u32; 32];
-    rows::read_row(clause, words, start, &mut row)?;
+    let row = rows::read_row(clause, words, start)?;
     Ok(rows::write_row(&row, out)?)
 }
 
@@ -123,9 +122,9 @@ pub fn edit_fetch(clause: Clause, words: &mut [u32], start: Words, settings: &[u
     ensures words_after { words.new ≡ edited_words (decode_of clause words.old start) settings.now words.old start }
     ensures promised { Promised clause words.old words.new settings.now start result }
 {
-    let mut row = [0u32; 32];
-    rows::read_row(clause, words, start, &mut row)?;
+    let mut row = rows::read_row(clause, words, start)?;
     rows::edit_row(&mut row, settings)?;
-    rows::put_row(&row, words, start);
+    // The row holds a fetch, and it was read from there.
+    let _ = codec_for_c::encode_fetch_row(&row, words, start);
     Ok(())
 }
