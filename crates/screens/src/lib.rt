@@ -5,13 +5,13 @@
 // `groups`. Branches go by what an accepted pack never has, so that each of them is foreseen.
 #![tactic(auto)]
 
-ghost use Rattle.std.specs.Prelude.{◌≡◌, ◌-◌, min};
+ghost use Rattle.std.specs.Prelude.{◌≡◌};
 ghost use Rattle.screens.specs.Code.{by_row, starts_of, widths_of, is_among, in_gap, writes_gap, bad_modes, asks_literal, is_second, asks_second, more_literals, broken_by};
 
 use bits::{Bits, field, read};
 use formats::fields;
 use grants::Limits;
-use instructions::{chosen, is_written, larger, third_word};
+use instructions::{is_written, third_word};
 
 // SEL and, above it, REL, as one number.
 const SOURCE0: Bits = Bits(fields::SRC0_REL.0, fields::SRC0_SEL.1);
@@ -39,49 +39,41 @@ fn by_row(regs: u32, set0: u32, set1: u32, inline: u32, consts: u32, rel: u32) -
     ]
 }
 
-fn smaller(a: u32, b: u32) -> u32
-    ensures { result ≡ min a b }
-{
-    if a < b { a } else { b }
-}
-
-// a less b, or 0.
-fn less(a: u32, b: u32) -> u32
-    ensures { result ≡ a - b }
-{
-    if b < a { a - b } else { 0 }
-}
-
 // Where the gaps start.
+#[tactic(auto, unfolding(crate::specs::Code::starts_of))]
 pub fn gap_starts(limits: Limits) -> [u32; 32]
     ensures { result ≡ starts_of limits }
 {
     let set0 = 128 + grants::locked_by(limits.mode0);
     let set1 = 160 + grants::locked_by(limits.mode1);
-    let constants = 256 + smaller(limits.consts, 256);
+    let constants = 256 + limits.consts.min(256);
     by_row(limits.gprs, set0, set1, 192, constants, 704)
 }
 
 // How many values they have.
+#[tactic(auto, unfolding(crate::specs::Code::widths_of))]
 pub fn gap_widths(limits: Limits) -> [u32; 32]
     ensures { result ≡ widths_of limits }
 {
-    let registers = less(less(128, limits.temps), limits.gprs);
+    let registers = 128u32
+        .saturating_sub(limits.temps)
+        .saturating_sub(limits.gprs);
     let set0 = 32 - grants::locked_by(limits.mode0);
     let set1 = 32 - grants::locked_by(limits.mode1);
-    let constants = 256 - smaller(limits.consts, 256);
+    let constants = 256 - limits.consts.min(256);
     by_row(registers, set0, set1, 56, constants, 64)
 }
 
 // Whether x is one of the `width` numbers from `start` on.
+#[tactic(auto, using(crate::proofs::OfGaps::wrapped), unfolding(crate::specs::Code::is_among))]
 fn is_among(x: u32, start: u32, width: u32) -> bool
     ensures { result ≡ is_among x start width }
 {
-    let behind = std::num::wrapping_sub_u32(x, start);
-    behind < width
+    x.wrapping_sub(start) < width
 }
 
 // Whether a value lies in a gap.
+#[tactic(auto, unfolding(crate::specs::Code::in_gap))]
 fn in_gap(starts: &[u32; 32], widths: &[u32; 32], x: u32) -> bool
     ensures { result ≡ in_gap starts.now widths.now x }
 {
@@ -91,15 +83,20 @@ fn in_gap(starts: &[u32; 32], widths: &[u32; 32], x: u32) -> bool
 
 // Whether the destination is a register in the gap of registers, and written. Its relative bit makes it a number behind that gap, and so is what
 // stands for one that is not written.
+#[tactic(auto, unfolding(crate::specs::Code::writes_gap))]
 fn writes_gap(starts: &[u32; 32], widths: &[u32; 32], high: u32) -> bool
     ensures { result ≡ writes_gap starts.now widths.now high }
 {
-    let written = is_written(high);
-    let register = chosen(written, read(high, DESTINATION), 255);
+    let register = if is_written(high) {
+        read(high, DESTINATION)
+    } else {
+        255
+    };
     is_among(register, starts[0], widths[0])
 }
 
 // Whether PRED_SEL is 1 or INDEX_MODE above 4.
+#[tactic(auto, using(crate::proofs::OfGaps::bad_modes_lem))]
 fn has_bad_modes(low: u32) -> bool
     ensures { result ≡ bad_modes low }
 {
@@ -107,6 +104,7 @@ fn has_bad_modes(low: u32) -> bool
 }
 
 // Whether the instruction breaks rule 12 or 15, by the gaps.
+#[tactic(auto, unfolding(crate::specs::Code::broken_by))]
 pub fn breaks_alone(starts: &[u32; 32], widths: &[u32; 32], low: u32, high: u32) -> bool
     ensures { result ≡ broken_by starts.now widths.now low high }
 {
@@ -127,6 +125,7 @@ pub fn breaks_alone(starts: &[u32; 32], widths: &[u32; 32], low: u32, high: u32)
 }
 
 // Whether a source is 253, a literal, without its relative bit; with it rule 12 is broken.
+#[tactic(auto, unfolding(crate::specs::Code::asks_literal))]
 fn asks_literal(low: u32, high: u32) -> bool
     ensures { result ≡ asks_literal low high }
 {
@@ -137,6 +136,7 @@ fn asks_literal(low: u32, high: u32) -> bool
 }
 
 // Whether a literal is in channel Z or W, the second quadword's.
+#[tactic(auto, unfolding(crate::specs::Code::asks_second))]
 fn asks_second(low: u32, high: u32) -> bool
     ensures { result ≡ asks_second low high }
 {
@@ -150,6 +150,7 @@ fn asks_second(low: u32, high: u32) -> bool
     first | (second | last)
 }
 
+#[tactic(auto, unfolding(crate::specs::Code::is_second))]
 fn is_second(sel: u32, chan: u32) -> bool
     ensures { result ≡ is_second sel chan }
 {
@@ -158,11 +159,12 @@ fn is_second(sel: u32, chan: u32) -> bool
 
 // The literal quadwords of a group with this instruction in it, too, which breaks nothing by itself. Most have no literal, and to find the
 // highest channel without a branch costs more than is lost by wrong guesses (docs/MACHINE-CODE.md).
+#[tactic(auto, using(crate::proofs::OfGaps::none_asked))]
 pub fn more_literals(so_far: u32, low: u32, high: u32) -> u32
     ensures { result ≡ more_literals so_far low high }
 {
     if asks_literal(low, high) {
-        return larger(so_far, chosen(asks_second(low, high), 2, 1));
+        return so_far.max(if asks_second(low, high) { 2 } else { 1 });
     }
     so_far
 }
