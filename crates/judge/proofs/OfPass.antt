@@ -1,7 +1,7 @@
 -- The first pass: a place from its parts, and one place more. Assumes nothing.
 use mathlib.Core.Path.{◌≡◌, ◌∙◌, sym, subst}
 use mathlib.Core.List.{List}
-use Prim.Native.Nat.{ℕ, suc, ◌+◌, ◌≤◌, ◌<◌}
+use Prim.Native.Nat.{ℕ, suc, ◌+◌, ◌-◌, ◌≤◌, ◌<◌}
 use native.Mathlib.Omega.{arith}
 use lib.ListN.{length, set, length-set}
 use Rattle.std.specs.Prelude.{Result, Ok, Err}
@@ -12,12 +12,13 @@ use Rattle.checks.proofs.OfChecks.{joined_clean, joined_refused, below_none, bel
 use Rattle.card.specs.declared.Card.{Card}
 use Rattle.walk.specs.declared.Frames.{Frames}
 use Rattle.walk.specs.declared.rows.Row.{Row}
-use Rattle.walk.specs.CodeRows.{row, frames}
+use Rattle.walk.specs.CodeRows.{row, frames, row_checks}
 use Rattle.walk.specs.CodeHeld.{Recorded}
 use Rattle.walk.specs.Flow.{flow_at}
-use Rattle.walk.specs.Rules.{stack_checks}
+use Rattle.walk.specs.Rules.{stack_checks, second_checks}
 use Rattle.walk.proofs.OfFollow.{held_start, recorded_none, recorded_more}
-use Rattle.judge.specs.Judge.{pair_checks, first_checks}
+use Rattle.walk.proofs.OfSecond.{second_pass_is}
+use Rattle.judge.specs.Judge.{pair_checks, first_checks, passes}
 use Rattle.judge.specs.Code.{Standing, StackFound, Found}
 
 -- ---- one place
@@ -74,3 +75,19 @@ pub passes_all :
 passes_all card w e s rows n q g =
     let behind : n ≡ suc e = omega arith in
     (subst (λ (k : ℕ). first_broken (below (first_checks card w e) k) ≡ Accepted) behind g.clean_before, subst (λ (k : ℕ). Recorded (flow_at w) k rows) behind g.recorded)
+
+-- ---- both passes
+
+module _ (card : Card) (w : List ℕ) (e : ℕ) where
+  pub first_refused : {r : Refusal} → first_broken (below (first_checks card w e) (suc e)) ≡ Err r → first_broken (passes card w e) ≡ Err r
+  unfolding passes
+  first_refused h = joined_refused (below (first_checks card w e) (suc e)) (below (second_checks e (flow_at w)) (suc e)) h
+
+  -- the second pass's answer over so many pairs
+  pub then_second :
+      (pairs : ℕ) (rows : List Row) (v : Verdict) → pairs ≡ suc e → first_broken (below (first_checks card w e) (suc e)) ≡ Accepted
+      → Recorded (flow_at w) (suc e) rows → v ≡ first_broken (below (row_checks (flow_at w) (pairs - 1) rows) pairs) → v ≡ first_broken (passes card w e)
+  unfolding passes
+  then_second pairs rows v n h r g =
+      second_pass_is (flow_at w) e pairs rows v n r g
+      ∙ sym (joined_clean (below (first_checks card w e) (suc e)) (below (second_checks e (flow_at w)) (suc e)) h)

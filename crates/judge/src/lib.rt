@@ -38,6 +38,7 @@ pub fn judge(card: Card, words: &[u32]) -> Verdict
 }
 
 // The same of a card in bytes. What stands behind its seventh line is not looked at.
+#[tactic(auto, unfolding(crate::specs::Judge::judgement_of_bytes))]
 pub fn judge_bytes(bytes: &[u8], words: &[u32]) -> Verdict
     ensures value { result ≡ judgement_of_bytes bytes.now words.now }
     ensures safely_read { result ≡ Accepted → SafelyRead bytes.now words.now }

@@ -45,7 +45,8 @@ impl<'a> Section<'a> {
 
     // The same, with a row for each of so many places.
     fn verdict_with_room<const PLACES: usize>(&self) -> Verdict
-        requires { self.now.end.0 < PLACES }
+        requires room { self.now.end.0 < PLACES }
+        requires few { PLACES ≤ 512 }
         ensures { result ≡ first_broken (passes self.now.card self.now.words.now self.now.end.0) }
     {
         let mut rows = [Row::EMPTY; PLACES];
