@@ -1,5 +1,6 @@
 -- The laws that proofs cite, here and in the crates above.
 pub mod OfPairs
+pub mod OfLayout
 pub mod OfStack
 pub mod OfPass
 pub mod OfSafe

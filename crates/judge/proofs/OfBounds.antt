@@ -6,21 +6,18 @@ use mathlib.Core.Path.{◌≡◌, refl}
 use mathlib.Core.Bool.{Bool, true, false, cond}
 use mathlib.Core.List.{List, [], ◌∷◌}
 use native.Mathlib.Omega.{arith}
+use Rattle.std.specs.Prelude.{Option, Some, None, Ok, Err}
 use borrow.Author.Tests.{ltb-true}
 use Rattle.units.specs.declared.Quadwords.{Quadwords}
 use Rattle.units.specs.declared.Slots.{Slots}
 use Rattle.units.specs.Units.{quadwords, slots, slots_length, fetches_length, lies_in, is_slot_below}
 use Rattle.checks.specs.declared.Place.TheVariants.{Whole, Line, Quadword}
-use Rattle.checks.specs.declared.Verdict.{Verdict}
-use Rattle.checks.specs.declared.Verdict.TheVariants.{Accepted, Refused}
-use Rattle.checks.specs.Verdict.{line_or_quadword, verdict_number, verdict_place, verdict_slot}
+use Rattle.checks.specs.Verdict.{Verdict, Accepted, Refused, line_or_quadword, verdict_number, verdict_place, verdict_slot}
 use Rattle.checks.specs.Checks.{Check, check}
 use Rattle.checks.proofs.OfEach.{Each, empty, more, each_joined, each_below, each_if, each_first}
 use Rattle.card.specs.declared.Card.{Card}
-use Rattle.card.specs.declared.CardRead.{CardRead}
-use Rattle.card.specs.declared.CardRead.TheVariants as read
 use Rattle.card.specs.declared.Kind.{Kind}
-use Rattle.card.specs.Card.{figure_tests, card_of}
+use Rattle.card.specs.Card.{CardRead, figure_tests, card_of}
 use Rattle.card.proofs.OfCard.{bad_line_lem}
 use Rattle.grants.specs.declared.Limits.{Limits}
 use Rattle.fetches.specs.Fetches as fetches
@@ -31,7 +28,7 @@ use Rattle.opcodes.specs.declared.cf.FetchKind.{FetchKind}
 use Rattle.opcodes.specs.declared.cf.Control.{Control}
 use Rattle.opcodes.specs.declared.cf.Control.TheVariants.{NotTaken, Nop, Fetch, Branch, Export, Alu}
 use Rattle.section.specs.declared.Clause.{Clause}
-use Rattle.section.specs.declared.Clause.TheVariants.{NoClause, AluClause, FetchClause}
+use Rattle.section.specs.declared.Clause.TheVariants.{Alu as AluClause, Fetch as FetchClause}
 use Rattle.section.specs.Control.{control_at, end_of}
 use Rattle.section.specs.Rules.{bad_length, no_end, clause_of, clause_at}
 use Rattle.section.proofs.OfEnd.{end_at_most}
@@ -64,10 +61,10 @@ AllNarrow = Each NarrowCheck
 
 -- ---- a clause has at most 128 slots or fetches: COUNT has 7 bits or 4
 
-abbrev Few : Clause → Type 0
-Few NoClause = Unit {0}
-Few (AluClause s n push mode0 mode1) = n.0 ≤ 128
-Few (FetchClause s n kind) = n.0 ≤ 128
+abbrev Few : Option Clause → Type 0
+Few None = Unit {0}
+Few (Some (AluClause s n push mode0 mode1)) = n.0 ≤ 128
+Few (Some (FetchClause s n kind)) = n.0 ≤ 128
 
 few_slots : (c : Control) (lo hi : ℕ) → Few (clause_of c lo hi)
 unfolding clause_of
@@ -144,14 +141,14 @@ module _ (place : Quadwords) (near : place.0 < 2 ^ 16) where
       (λ t. each_joined (in-groups _ limits w s n few n.0 (slots 0)) (of_pair_lem 14 (omega arith, omega arith) empty))
 
   -- 8 to 15
-  in_clause : (card : Card) (w : List ℕ) (k : Clause) → Few k → AllNarrow (clause_checks card w place k)
+  in_clause : (card : Card) (w : List ℕ) (k : Option Clause) → Few k → AllNarrow (clause_checks card w place k)
   unfolding clause_checks
-  in_clause card w NoClause few = empty
-  in_clause card w (AluClause s n push mode0 mode1) few = in_alu _ push _ w s n few
-  in_clause card w (FetchClause s n kind) few = in_fetches kind _ w s n few
+  in_clause card w None few = empty
+  in_clause card w (Some (AluClause s n push mode0 mode1)) few = in_alu _ push _ w s n few
+  in_clause card w (Some (FetchClause s n kind)) few = in_fetches kind _ w s n few
 
 -- 22, asked against each earlier place
-in_layout : (opens : ℕ → Clause) (p : ℕ) → p < 2 ^ 16 → AllNarrow (layout_checks opens p)
+in_layout : (opens : ℕ → Option Clause) (p : ℕ) → p < 2 ^ 16 → AllNarrow (layout_checks opens p)
 unfolding layout_checks shared_checks
 in_layout opens p near =
     of_pair_lem (quadwords p) near 22 (omega arith, omega arith)
@@ -214,9 +211,9 @@ judgement_narrow card w = by (judgement card w) refl
   where
     by : (v : Verdict) → judgement card w ≡ v → Narrow v
     by Accepted e = record { number = omega arith; refused = λ z. refl; place = omega arith; slot = omega arith }
-    by (Refused r p s) e =
-        let b = (judged_refused card w r p s).0 e in
-        let h = each_first (checks card w) r p s (in_checks card w) b in
+    by (Err refusal) e =
+        let b = (judged_refused card w refusal.rule refusal.place refusal.slot).0 e in
+        let h = each_first (checks card w) refusal.rule refusal.place refusal.slot (in_checks card w) b in
         record { number = h.rule.1; refused = λ z. absurd (omega (arith, h.rule.0)); place = h.place; slot = h.slot }
 
 -- a line at fault
@@ -229,5 +226,5 @@ unfolding judgement_of_bytes
 bytes_narrow bytes w = by (card_of bytes) refl
   where
     by : (r : CardRead) → card_of bytes ≡ r → Narrow (read_judgement r w)
-    by (read.BadLine n) e = line_narrow n (omega (arith, (bad_line_lem bytes n e).1))
-    by (read.Whole card n) e = judgement_narrow card w
+    by (Err line) e = line_narrow line.0 (omega (arith, (bad_line_lem bytes line.0 e).1))
+    by (Ok (card, n)) e = judgement_narrow card w

@@ -8,6 +8,7 @@ use mathlib.Core.Logic.{◌⊎◌, inl, inr, ⊎_elim}
 use Prim.Native.Nat.{ℕ, zero, suc, ◌+◌, ◌*◌, ◌/◌, ◌≤◌, ◌<◌}
 use native.Mathlib.Omega.{arith}
 use native.Mathlib.Nat.{eq-or-lt_of_le, le_refl, le_step}
+use Rattle.std.specs.Prelude.{Option, Some, None}
 use lib.Dec.{ltb}
 use lib.ListN.{length}
 use borrow.Author.Tests.{ltb-true, ltb-false, le-leb}
@@ -15,7 +16,7 @@ use Rattle.laws.proofs.OfTests.{by_test_lem}
 use Rattle.units.specs.declared.Quadwords.{Quadwords}
 use Rattle.units.specs.declared.Slots.{Slots}
 use Rattle.units.specs.Units.{quadwords, words, low_at, high_at, slots_length, fetches_length, lies_in}
-use Rattle.checks.specs.declared.Verdict.TheVariants.{Accepted}
+use Rattle.checks.specs.Verdict.{Accepted}
 use Rattle.checks.specs.Checks.{first_broken, below}
 use Rattle.checks.proofs.OfChecks.{first_clean, rest_clean, left_clean, right_clean, below_each}
 use Rattle.card.specs.declared.Card.{Card}
@@ -29,9 +30,9 @@ use Rattle.opcodes.specs.declared.cf.FetchKind.{FetchKind}
 use Rattle.opcodes.specs.declared.cf.Control.{Control}
 use Rattle.opcodes.specs.declared.cf.Control.TheVariants.{NotTaken}
 use Rattle.section.specs.declared.Clause.{Clause}
-use Rattle.section.specs.declared.Clause.TheVariants.{NoClause, AluClause, FetchClause}
+use Rattle.section.specs.declared.Clause.TheVariants.{Alu, Fetch}
 use Rattle.section.specs.Control.{control_at, end_of}
-use Rattle.section.specs.Rules.{is_not_taken, clause_at, bad_range, export_names}
+use Rattle.section.specs.Rules.{is_not_taken, clause_at, range_of, bad_range, export_names}
 use Rattle.section.proofs.OfEnd.{ends_at}
 use Rattle.section.proofs.OfRules.{length_right, inside, each_export_granted}
 use Rattle.apart.specs.Apart.{start_of, length_of, odd_fetch, SameOrDisjoint}
@@ -41,7 +42,8 @@ use Rattle.walk.specs.Rules.{stack_checks, second_checks}
 use Rattle.walk.specs.Walk.{State, start, walk}
 use Rattle.walk.proofs.OfWalk.{Sound, clean_passes, walk_sound}
 use Rattle.judge.specs.Judge.{line_checks, limits_with, limits_in, clause_checks, pair_checks, first_checks, passes, checks, judgement}
-use Rattle.judge.proofs.OfPairs.{RangeKept, InsideKept, pair_range, pair_layout, pair_inside}
+use Rattle.judge.proofs.OfPairs.{RangeKept, InsideKept, pair_range, pair_inside}
+use Rattle.judge.proofs.OfLayout.{pair_layout}
 use Rattle.judge.specs.Safe.{LiesBehind, IsFilled, names_below, names_of_each, clause_names, names_at, FirstEnd, Safe, Safely}
 
 -- ---- a name in a list of names
@@ -78,60 +80,60 @@ unfolding is_not_taken
 taken_number c h e = true≢false (sym (ap is_not_taken e) ∙ h)
 
 lies_behind :
-    (e : ℕ) (quads : Quadwords) (m : ℕ) → m ≡ 2 * quads.0 → (k : Clause) → bad_range (quadwords e) quads k ≡ false
+    (e : ℕ) (quads : Quadwords) (m : ℕ) → m ≡ 2 * quads.0 → (k : Option Clause) → bad_range (quadwords e) quads k ≡ false
     → LiesBehind e m k
 unfolding bad_range
-lies_behind e quads m q NoClause h = tt
-lies_behind e quads m q (AluClause s n push mode0 mode1) h =
-    let r = inside (quadwords e) quads s (slots_length n) h in (r.0, omega (arith, r.1))
-lies_behind e quads m q (FetchClause s n kind) h =
-    let r = inside (quadwords e) quads s (fetches_length n) h in (r.0, omega (arith, r.1))
+lies_behind e quads m q None h = tt
+lies_behind e quads m q (Some (Alu s n push mode0 mode1)) h =
+    let r = inside (quadwords e) quads (range_of (Alu s n push mode0 mode1)) h in (r.0, omega (arith, r.1))
+lies_behind e quads m q (Some (Fetch s n kind)) h =
+    let r = inside (quadwords e) quads (range_of (Fetch s n kind)) h in (r.0, omega (arith, r.1))
 
 -- ---- a place of the section whose checks are unbroken
 
 -- the clause that is asked about lies in the buffer
 module _ (w : List ℕ) (e : ℕ) (s : Quadwords) (n : Slots) where
   alu_inside :
-      (push : Bool) (mode0 mode1 : ℕ) → LiesBehind e (length w) (AluClause s n push mode0 mode1)
+      (push : Bool) (mode0 mode1 : ℕ) → LiesBehind e (length w) (Some (Alu s n push mode0 mode1))
       → lies_in (words (length w)) s (slots_length n) ≡ true
   unfolding lies_in
   alu_inside push mode0 mode1 l = le-leb (s.0 + n.0) (length w / 2) (omega (arith, l.1))
 
   fetches_inside :
-      (kind : FetchKind) → LiesBehind e (length w) (FetchClause s n kind) → lies_in (words (length w)) s (fetches_length n) ≡ true
+      (kind : FetchKind) → LiesBehind e (length w) (Some (Fetch s n kind)) → lies_in (words (length w)) s (fetches_length n) ≡ true
   unfolding lies_in
   fetches_inside kind l = le-leb (s.0 + 2 * n.0) (length w / 2) (omega (arith, l.1))
 
 module _ (card : Card) (w : List ℕ) (e p : ℕ) where
   in_clause :
-      (k : Clause) → LiesBehind e (length w) k → first_broken (clause_checks card w (quadwords p) k) ≡ Accepted → (x : Name)
+      (k : Option Clause) → LiesBehind e (length w) k → first_broken (clause_checks card w (quadwords p) k) ≡ Accepted → (x : Name)
       → Memᴰ x (clause_names w k) → granted (limits_in card k) x ≡ true
   unfolding clause_names clause_checks
-  in_clause NoClause l h = λ x m. absurd (Memᴰ.not-nil m)
-  in_clause (AluClause s n push mode0 mode1) l h =
+  in_clause None l h = λ x m. absurd (Memᴰ.not-nil m)
+  in_clause (Some (Alu s n push mode0 mode1)) l h =
       each_of_lem (λ g. names_below (alu.named_at w s g) (alu.size_at w s n g)) (alu.groups_of w s n)
       (λ g t.
       each_below (alu.named_at w s g) (alu.size_at w s n g)
       (of-alu.accepted_granted card.kind push (limits_with card mode0 mode1) w (quadwords p) s n
       (alu_inside w e s n push mode0 mode1 l) h g t))
-  in_clause (FetchClause s n kind) l h =
+  in_clause (Some (Fetch s n kind)) l h =
       each_below (fetches.named_at kind w s) n.0
       (of-fetches.accepted_granted kind (limits_with card 0 0) w (quadwords p) s n (fetches_inside w e s n kind l) h)
 
   filled :
-      (k : Clause) → LiesBehind e (length w) k → first_broken (clause_checks card w (quadwords p) k) ≡ Accepted → IsFilled w k
+      (k : Option Clause) → LiesBehind e (length w) k → first_broken (clause_checks card w (quadwords p) k) ≡ Accepted → IsFilled w k
   unfolding clause_checks
-  filled NoClause l h = tt
-  filled (AluClause s n push mode0 mode1) l h =
+  filled None l h = tt
+  filled (Some (Alu s n push mode0 mode1)) l h =
       of-alu.accepted_filled card.kind push (limits_with card mode0 mode1) w (quadwords p) s n
       (alu_inside w e s n push mode0 mode1 l) h
-  filled (FetchClause s n kind) l h = tt
+  filled (Some (Fetch s n kind)) l h = tt
 
   -- the card's figures are granted whatever the clause
-  same_gprs : (k : Clause) → (limits_in card k).gprs ≡ card.gprs
-  same_gprs NoClause = refl
-  same_gprs (AluClause s n push mode0 mode1) = refl
-  same_gprs (FetchClause s n kind) = refl
+  same_gprs : (k : Option Clause) → (limits_in card k).gprs ≡ card.gprs
+  same_gprs None = refl
+  same_gprs (Some (Alu s n push mode0 mode1)) = refl
+  same_gprs (Some (Fetch s n kind)) = refl
 
   module _ (whole : length w ≡ 2 * card.quads.0) (r : RangeKept card w e p) (i : InsideKept card w p) where
     pub place-taken : control_at w p ≡ NotTaken → ⊥

@@ -1,9 +1,9 @@
 -- `judge::judge` meets its contract: demand 2, and demand 3 with it. Assumes nothing.
-use Rattle.std.proofs.Common.{Err, sym, ap, ◌∙◌, arith, true, false, ◌≡◌}
+use Rattle.std.proofs.Common.{Err, sym, ap, ◌∙◌, arith, rules, true, false, ◌≡◌}
+use lib.Dec.{leb}
 use Rattle.units.specs.declared.Quadwords.{Quadwords}
 use Rattle.checks.specs.Checks.{first_broken}
 use Rattle.section.specs.Control.{end_of}
-use Rattle.section.specs.Rules.{no_end}
 use Rattle.judge.specs.Judge.{passes}
 use Rattle.judge.proofs.OfJudge.{line_refused, length-refused, no_end_is, end-refused, in_words, by-passes}
 use Rattle.judge.proofs.OfSafe.{accepted_safely}
@@ -23,14 +23,16 @@ returns-then-is_bad_length-clause-value c =
 pub returns-then-le-clause-value : goal.returns-then-le-clause-value
 returns-then-le-clause-value c =
     let a = c.args in
-    let none : no_end a.words.now ≡ true = no_end_is a.words.now c.searched_pairs.ensures c.find_end-end.ensures c.if-le.ensures in
+    let asked : true ≡ leb c.searched_pairs.result.0 c.find_end-end.result.0 = search rules in
+    let none = no_end_is a.words.now c.searched_pairs.ensures c.find_end-end.ensures asked in
     ap Err c.of_place-then-le.ensures
     ∙ sym (end-refused a.card a.words.now (sym c.check_card.ensures ∙ c.in_default.is) (sym c.is_bad_length.ensures ∙ c.if-is_bad_length.false) none)
 
 pub invariant_of-verdict : goal.invariant_of-verdict
 invariant_of-verdict c =
     let a = c.args in
-    let one : no_end a.words.now ≡ false = no_end_is a.words.now c.searched_pairs.ensures c.find_end-end.ensures c.if-le.ensures in
+    let asked : false ≡ leb c.searched_pairs.result.0 c.find_end-end.result.0 = search rules in
+    let one = no_end_is a.words.now c.searched_pairs.ensures c.find_end-end.ensures asked in
     let words = in_words a.card a.words.now (sym c.check_card.ensures ∙ c.in_default.is) (sym c.is_bad_length.ensures ∙ c.if-is_bad_length.false) one in
     let end : c.find_end-end.result.0 ≡ end_of a.words.now = ap (λ (x : Quadwords). x.0) c.find_end-end.ensures in
     record {
@@ -42,7 +44,8 @@ invariant_of-verdict c =
 pub returns : goal.returns
 returns c =
     let a = c.args in
-    let one : no_end a.words.now ≡ false = no_end_is a.words.now c.searched_pairs.ensures c.find_end-end.ensures c.if-le.ensures in
+    let asked : false ≡ leb c.searched_pairs.result.0 c.find_end-end.result.0 = search rules in
+    let one = no_end_is a.words.now c.searched_pairs.ensures c.find_end-end.ensures asked in
     let value =
         c.verdict.ensures
         ∙ ap (λ (x : Quadwords). first_broken (passes a.card a.words.now x.0)) c.find_end-end.ensures
