@@ -272,9 +272,6 @@ module _ (w : List ℕ) (at n t : ℕ) (e : Ends w at n) where
   abbrev los : PerInstruction
   los = low_of w (first_of at n)
 
-  pub ends_inside : (2 * (at + 1 - size_in n + size_in n) ≤ length w) × (size_in n ≤ at + 1)
-  ends_inside = (omega (arith, e.some, e.inside), e.some)
-
   pub issues_kept :
       {kill : Bool} → n / 16 % 16 + n / 256 % 16 ≤ 1 → (ltb 0 (n / 256 % 16) && not kill) ≡ false
       → {a b : Bool} → a ≡ (ltb 0 (n / 4096 % 16) && any_below (λ j. has_relative (los j) (his j)) (size_in n))
@@ -293,17 +290,6 @@ module _ (w : List ℕ) (at n t : ℕ) (e : Ends w at n) where
             ∙ sym q
             ∙ z.1;
       }
-
--- a question that is not asked where there are none
-pub not_asked : (n : ℕ) (b : Bool) → n ≡ 0 → false ≡ (ltb 0 n && b)
-not_asked n b z = rw (le-ltb 0 n (omega (arith, z)))
-
-pub is_asked : (n : ℕ) {b d : Bool} → (n ≡ 0 → ⊥) → b ≡ d → b ≡ (ltb 0 n && d)
-is_asked n z e = e ∙ rw (lt-ltb 0 n (some n z))
-  where
-    some : (n : ℕ) → (n ≡ 0 → ⊥) → 0 < n
-    some zero h = absurd (h refl)
-    some (suc n) h = omega arith
 
 -- all of it, and nothing
 kept_all : (t : Tally) → t ≡ kept_of 1 t

@@ -70,6 +70,7 @@ impl AluClause<'_> {
 }
 
 // x where `bit` is 1, and 0 where it is 0.
+#[tactic(auto, using(crate::proofs::OfScreen::masked))]
 fn only_if(bit: u32, x: u32) -> u32
     requires { bit < 2 }
     ensures { result ≡ bit * x }
@@ -85,6 +86,7 @@ fn unit_of(taken: u32, code: u32, high: u32) -> u32
 }
 
 // Rules 11, 12, 13 and 15.
+#[tactic(auto, unfolding(crate::specs::CodeScreen::is_wrong))]
 fn is_wrong(
     starts: &[u32; 32],
     widths: &[u32; 32],
@@ -103,6 +105,7 @@ fn is_wrong(
 }
 
 // What is kept, with one instruction more, in that unit; with it the group has so many literal quadwords.
+#[tactic(auto, using(crate::proofs::OfScreen::weight_few))]
 fn with_one(seen: Tally, code: u32, unit: u32, literals: u32) -> Tally
     requires { seen.issued < 2 ^ 31 }
     ensures { result ≡ with_one seen code unit literals }
@@ -115,6 +118,7 @@ fn with_one(seen: Tally, code: u32, unit: u32, literals: u32) -> Tally
 }
 
 // One in the digit of the class's issue kind.
+#[tactic(auto, using(crate::proofs::OfScreen::weighed))]
 fn weight(code: u32) -> u32
     ensures { result ≡ 16 ^ (code / 4 % 8) }
 {

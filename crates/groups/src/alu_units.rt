@@ -19,6 +19,7 @@ pub fn occupy(taken: u32, unit: u32) -> u32
 }
 
 // 1 where an instruction goes to Trans, of a class by its number (opcodes, code_of), and else 0: by bits, since a choice here would be a branch.
+#[tactic(auto, using(crate::proofs::OfTally::moves_by_lem))]
 fn moves(taken: u32, code: u32, chan: u32) -> u32
     ensures { result ≡ unitCode.moves_by taken (code % 4) chan }
 {
@@ -27,6 +28,7 @@ fn moves(taken: u32, code: u32, chan: u32) -> u32
 }
 
 // The unit that an instruction of this class, by its number, gets with this DST_CHAN.
+#[tactic(auto, unfolding(crate::specs::Code::moves_by, crate::specs::Code::unit_by))]
 pub fn unit_by_code(taken: u32, code: u32, chan: u32) -> u32
     ensures { result ≡ unitCode.unit_by taken (code % 4) chan }
 {
