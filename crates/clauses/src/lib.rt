@@ -87,7 +87,7 @@ impl AluClause<'_> {
         ensures { result ≡ first_broken (clause_checks self.now.kind self.now.push_before self.now.limits self.now.words.now self.now.place self.now.start self.now.slots) }
     {
         let mut setters = Count::Nothing;
-        // The first slot of the next group.
+        // The first slot of the next group, which no range gives: a group says how many slots it takes.
         let mut first = Slots(0);
         while first < self.slots {
             match self.judge_group(first) {
@@ -163,6 +163,6 @@ impl AluClause<'_> {
     fn is_pixel(&self) -> bool
         ensures { result ≡ is_pixel self.now.kind }
     {
-        matches!(self.kind, Kind::Pixel)
+        self.kind == Kind::Pixel
     }
 }
