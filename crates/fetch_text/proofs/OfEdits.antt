@@ -1,7 +1,9 @@
 -- Settings put into a row: one, by what was read of it; and one after the other, as the loop does. Assumes nothing.
-use Rattle.std.proofs.Common.{◌≡◌, refl, sym, ap, subst, ◌∙◌, ℕ, suc, ◌+◌, ◌-◌, ◌≤◌, ◌<◌, List, [], ◌∷◌, length, set, Option, Some, None, Result, Ok, Err, OnOk, arith, length-drop}
-use Rattle.std.specs.Prelude.{⊤}
+use Rattle.std.proofs.Common.{◌≡◌, ◌==◌, refl, sym, ap, subst, ◌∙◌, Bool, true, false, ℕ, zero, suc, ◌+◌, ◌-◌, ◌≤◌, ◌<◌, List, [], ◌∷◌, length, set, Option, Some, None, Result, Ok, Err, OnOk, arith, length-drop}
+use Rattle.std.specs.Prelude.{⊤, IsErrAnd}
+use borrow.Author.Tests.{ne_eqb}
 use Rattle.std.specs.List.{before_first, after_first, position_or_len}
+use Rattle.settings.specs.declared.SettingError.{SettingError}
 use Rattle.settings.specs.Setting.{Setting, Is, setting_of, changed_to, changed, changed_by}
 use Rattle.settings.proofs.OfReading.{index_within}
 use Rattle.fetch_codec.specs.declared.Fetch.{Fetch}
@@ -10,22 +12,36 @@ use Rattle.fetch_text.specs.declared.Fault.{Fault}
 use Rattle.fetch_text.specs.declared.EditError.{EditError}
 use Rattle.fetch_text.specs.declared.EditError.TheVariants.{Wrong}
 use Rattle.fetch_text.specs.Text.{keys_of, values_of}
-use Rattle.fetch_text.specs.Edit.{ends_line, lines_in, fault_of, or_later, first_fault, unless}
+use Rattle.fetch_text.specs.Edit.{ends_line, lines_in, fault_read, fault_of, or_later, first_fault, unless}
 use Rattle.fetch_text.specs.Code.{Holds, NumberPut, Changed, SettingPut, AllPut}
 use Rattle.fetch_text.proofs.OfForms.{form, keys_same, fault_same, keys_count, fetch_itself}
 use Rattle.fetch_text.proofs.OfLines.{first_line_lem, first_ends}
 use Rattle.fetch_text.proofs.OfRows.{set_form, set_values}
 
 -- what is answered tells what is wrong
-nothing_wrong : {E : Type 0} (o : Option E) {answer : Result ⊤ E} {t : ⊤} → answer ≡ Ok t → answer ≡ unless o → o ≡ None
+pub nothing_wrong : {E : Type 0} (o : Option E) {answer : Result ⊤ E} {t : ⊤} → answer ≡ Ok t → answer ≡ unless o → o ≡ None
 nothing_wrong None e h = refl
 nothing_wrong (Some why) e h = absurd (cc)
 
-something_wrong : {E : Type 0} (o : Option E) {answer : Result ⊤ E} {why : E} → answer ≡ Err why → answer ≡ unless o → o ≡ Some why
+pub something_wrong : {E : Type 0} (o : Option E) {answer : Result ⊤ E} {why : E} → answer ≡ Err why → answer ≡ unless o → o ≡ Some why
 something_wrong None e h = absurd (cc)
 something_wrong (Some x) e h = cc
 
 -- ---- one setting
+
+-- what was read of a line by names that are those of the row
+pub said_is :
+    {keys own : List (List ℕ)} (line : List ℕ) {r s : Setting} → keys ≡ own → r ≡ setting_of keys line → r ≡ s → setting_of own line ≡ s
+said_is line n v w = sym (ap (λ (ks : List (List ℕ)). setting_of ks line) n) ∙ sym v ∙ w
+
+-- it is no setting
+pub not_put :
+    (row line : List ℕ) (answer : Result ⊤ Fault) {why : SettingError} → setting_of (keys_of (fetch_in row)) line ≡ Err why
+    → IsErrAnd answer (λ x. x ≡ fault_read why) → SettingPut row row line answer
+unfolding fault_of
+not_put row line (Ok t) said e = absurd e
+not_put row line (Err x) {why} said e =
+    record { told = ap (λ (y : Fault). Err y) e ∙ sym (ap (λ (s : Setting). unless (fault_of (fetch_in row) s)) said); put = record {} }
 
 module _ (row line : List ℕ) (w : Holds row) {index n : ℕ} (said : setting_of (keys_of (fetch_in row)) line ≡ Is index n) where
   pub index_inside : index < length (keys_of (fetch_in row))
@@ -53,6 +69,15 @@ module _ (row line : List ℕ) (w : Holds row) {index n : ℕ} (said : setting_o
       by (Err why) holds = record {}
 
 -- ---- one after the other
+
+-- something is left of a text, or nothing
+pub some_left : (n : ℕ) {empty : Bool} → empty ≡ (n == 0) → empty ≡ false → 0 < n
+some_left zero e h = absurd (cc)
+some_left (suc n) e h = omega arith
+
+pub none_left : (n : ℕ) {empty : Bool} → empty ≡ (n == 0) → empty ≡ true → n ≡ 0
+none_left zero e h = refl
+none_left (suc n) e h = let other = ne_eqb (suc n) 0 (λ z. omega arith) in absurd (cc)
 
 -- the lines before `rest` are put into the row
 pub record Editing (text first row rest : List ℕ) : Type 0 where
@@ -156,3 +181,7 @@ module _ {text first row rest : List ℕ} (w : Editing text first row rest) wher
                 ∙ ap (λ (vs : List ℕ). changed_by (keys_of g) vs (lines_in behind))
                 (ap (λ (ks : List (List ℕ)). changed ks (values_of f) line) (sym (keys_same f g w.same)) ∙ sym put.values_are);
           }
+
+-- what stands behind a line is shorter than the text that begins with it
+pub line_shorter : (rest : List ℕ) {behind : List ℕ} → 0 < length rest → behind ≡ after_first ends_line rest → length behind < length rest
+line_shorter rest h e = omega (arith, ap length e, length-drop (position_or_len ends_line rest + 1) rest)

@@ -2,7 +2,7 @@
 use mathlib.Core.Path.{◌≡◌, refl, sym, ap, ◌∙◌, subst}
 use mathlib.Core.Bool.{Bool, true, ◌&&◌}
 use mathlib.Core.List.{List, [], ◌∷◌, ◌++◌}
-use Rattle.std.specs.Prelude.{Option, Some, None, Result, Ok, Err, IsOk, OnOk, ⊤}
+use Rattle.std.specs.Prelude.{Option, Some, None, Result, Ok, Err, IsOk, IsErrAnd, OnOk, ⊤}
 use Prim.Native.Nat.{ℕ, zero, suc, ◌+◌, ◌*◌, ◌^◌, ◌≤◌, ◌<◌}
 use native.Mathlib.Omega.{arith}
 use native.Mathlib.Nat.{pow-le-pow_right}
@@ -42,8 +42,9 @@ use Rattle.fetch_text.specs.declared.EditError.{EditError}
 use Rattle.fetch_text.specs.declared.EditError.TheVariants.{NoFetch}
 use Rattle.fetch_text.specs.Text.{form_fields, keys_of, widths_of, values_of, text_of}
 use Rattle.fetch_text.specs.Edit.{lines_in, fault_of, or_later, first_fault, edited, edit_of, edited_words, words_with, unless, Promised}
-use Rattle.fetch_text.specs.Code.{AllPut}
+use Rattle.fetch_text.specs.Code.{RowRead, Edited, AllPut}
 use Rattle.fetch_text.proofs.OfForms.{form, keys_same, kind_same, fault_same, length_same, keys_count, widths_count, values_row, fetch_itself, fits_all}
+use Rattle.fetch_text.proofs.OfEdits.{nothing_wrong, something_wrong}
 use Rattle.fetch_text.proofs.OfLines.{feedless_keys, lines_written}
 
 -- ---- the lines of a fetch
@@ -200,6 +201,19 @@ module _ (clause : Clause) (l : List ℕ) (start : Words) (f : Fetch) (e : decod
       let is : fetch_of (kind_of clause) w0 w1 w2 ≡ f = cc in
       sym (kind_of_lem (kind_of clause) w0 w1 w2) ∙ ap form_kind is)
 
+-- a row that was read holds the fetch that stands there
+row_is : (d : Decoded) {read : Result (List ℕ) DecodeError} {row : List ℕ} → RowRead d read → read ≡ Ok row → d ≡ Ok (fetch_in row)
+row_is (Err e) {read} {row} w is = absurd (by w is)
+  where
+    by : read ≡ Err e → read ≡ Ok row → ⊥
+    by p q = absurd cc
+row_is (Ok f) {read} {row} w is = let h = subst (RowRead (Ok f)) is w in ap (λ (g : Fetch). Ok g) (sym h.1)
+
+-- an answer that hands an error on is that error
+pub is_err : (r : Result ⊤ EditError) {e : EditError} → IsErrAnd r (λ x. x ≡ e) → r ≡ Err e
+is_err (Ok t) h = absurd h
+is_err (Err x) h = ap (λ (y : EditError). Err y) h
+
 -- of two fetches that stand at one place
 same_fetch : {d : Decoded} {f g : Fetch} → d ≡ Ok f → d ≡ Ok g → f ≡ g
 same_fetch p q = cc
@@ -260,6 +274,21 @@ module _ (clause : Clause) (l : List ℕ) (start : Words) (text : List ℕ) wher
             read_back = λ f x k form_same x_can t.
                 let f_is = same_fetch k is in
                 let back : h ≡ x = ap (λ (y : Fetch). edited y (lines_in text)) (sym f_is) ∙ ap (λ (y : List ℕ). edited f (lines_in y)) t ∙ text_back f x form_same x_can in
-                (record {}, there ∙ ap (λ (y : Fetch). Ok y) back);
+                (refl, there ∙ ap (λ (y : Fetch). Ok y) back);
           };
         }
+
+  -- by the row that the fetch was read into, and what became of it
+  module _ {read : Result (List ℕ) DecodeError} {row after : List ℕ} (w : RowRead (decode_of clause l start) read) (is : read ≡ Ok row)
+      {answer : Result ⊤ EditError} (p : AllPut row after text answer) where
+    pub row_wrong : {e : EditError} → answer ≡ Err e → Kept (Err e) l
+    row_wrong q = kept_wrong (fetch_in row) (row_is (decode_of clause l start) w is) (something_wrong (first_fault (fetch_in row) 0 (lines_in text)) q p.told)
+
+    pub row_done : {words_after : List ℕ} {t : ⊤} → answer ≡ Ok t → words_after ≡ fetch_words after l start.0 → Kept (Ok t) words_after
+    unfolding fetch_words
+    row_done q e =
+        let put : Edited row after text = subst (λ (r : Result ⊤ EditError). OnOk r (Edited row after text)) q p.put in
+        kept_done (fetch_in row) (row_is (decode_of clause l start) w is) (nothing_wrong (first_fault (fetch_in row) 0 (lines_in text)) q p.told)
+        (ap form (sym put.fetch) ∙ put.form)
+        (ap encodable (sym put.fetch) ∙ put.holds.can)
+        (e ∙ rw put.holds.is_a_fetch (ap (λ (f : Fetch). encode_words f l start) put.fetch))

@@ -3,13 +3,15 @@ use mathlib.Core.Path.{◌≡◌, refl, sym, ap, ◌∙◌, subst}
 use mathlib.Core.Bool.{Bool, true, false, ◌&&◌}
 use mathlib.Core.List.{List, [], ◌∷◌, ◌++◌}
 use Rattle.std.specs.Prelude.{Option, Some, Result, Ok, Err, is_ok, OnOk, ⊤}
-use Prim.Native.Nat.{ℕ, suc, ◌+◌, ◌^◌, ◌≤◌, ◌<◌}
+use Prim.Native.Nat.{ℕ, suc, ◌+◌, ◌-◌, ◌^◌, ◌≤◌, ◌<◌}
 use native.Mathlib.Numerals.{add-one}
 use native.Mathlib.Omega.{arith}
 use lib.Dec.{ltb, leb}
 use borrow.Author.Tests.{le-leb}
 use lib.ListN.{length, get_or, drop, set, length-append, length-drop, length-set}
 use lib.Seq.{set-append_left, get_or-set_other}
+use borrow.Rule.Slice.PartMut.{mid_of}
+use Rattle.laws.proofs.OfLists.{to_the_end}
 use Rattle.laws.proofs.OfTests.{by_test_lem}
 use Rattle.laws.proofs.OfCases.{impossible}
 use Rattle.ascii.specs.Decimal.{decimal}
@@ -115,13 +117,15 @@ lines_longer (k ∷ ks) [] pad h = absurd (omega arith)
 lines_longer (k ∷ ks) (v ∷ vs) pad h = ap (λ (ls : List (List ℕ)). (k ++ decimal v) ∷ ls) (lines_longer ks vs pad (omega arith))
 
 -- so the lines of the row are the text of its fetch
-pub row_text : (row : List ℕ) → Holds row → {keys : List (List ℕ)} → keys ≡ keys_of (fetch_in row) → settings_text keys (drop 1 row) ≡ text_of (fetch_in row)
+pub row_text : (row : List ℕ) → Holds row → {keys : List (List ℕ)} → keys ≡ keys_of (fetch_in row) → settings_text keys (mid_of 1 31 row) ≡ text_of (fetch_in row)
 unfolding settings_text
 row_text row w e =
     let f = fetch_in row in
     let pad = drop (length (fetch_values f)) row in
     let values : drop 1 row ≡ values_of f ++ pad = ap (drop 1) (row_of row w.is_a_fetch ∙ ap (λ (vs : List ℕ). vs ++ pad) (values_row f)) in
-    rw (e, values, lines_longer (keys_of f) (values_of f) pad (omega (arith, keys_count f)))
+    let behind : mid_of 1 31 row ≡ drop 1 row =
+    (let rest : 31 ≡ length row - 1 = omega (arith, w.long) in ap (λ (n : ℕ). mid_of 1 n row) rest) ∙ to_the_end 1 row in
+    rw (e, behind, values, lines_longer (keys_of f) (values_of f) pad (omega (arith, keys_count f)))
 
 -- one of them set: the row of the fetch with that value
 module _ (row : List ℕ) (t : is_fetch row ≡ true) (i n : ℕ) (h : i < length (values_of (fetch_in row))) where

@@ -36,15 +36,18 @@ pub(crate) fn write_row(row: &Row, out: &mut [u8]) -> Result<usize, TooSmall>
     report::write_settings(names(row), &row[1..], out)
 }
 
-// The names of the fields of a row's form.
+// The names of the fields of a row's form, a number, since rows are made for C (`codec_for_c::zlatomruk_decode_fetch`).
 fn names(row: &Row) -> &'static [&'static str]
     requires { Holds row.now }
     ensures { keys_for result.now ≡ keys_of (fetch_in row.now) }
 {
-    match row[0] {
-        5 => &keys::TEX,
-        6 => &keys::VTX_GPR,
-        _ => &keys::VTX_SEM,
+    let form = row[0];
+    if form == 5 {
+        &keys::TEX
+    } else if form == 6 {
+        &keys::VTX_GPR
+    } else {
+        &keys::VTX_SEM
     }
 }
 
@@ -57,7 +60,9 @@ pub(crate) fn edit_row(row: &mut Row, text: &[u8]) -> Result<(), EditError>
     while !rest.is_empty() {
         let at = text.len() - rest.len();
         let (line, behind) = split_line(rest);
-        set_line(row, line).map_err(|fault| EditError::Wrong { at, fault })?;
+        if let Err(fault) = set_line(row, line) {
+            return Err(EditError::Wrong { at, fault });
+        }
         rest = behind;
     }
     Ok(())
