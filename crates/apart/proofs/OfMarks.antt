@@ -2,7 +2,7 @@
 -- has. Assumes nothing.
 use Prim.Native.Nat.{ℕ, zero, suc, ◌+◌, ◌-◌, ◌^◌, ◌≤◌, ◌<◌, min, max}
 use mathlib.Core.Path.{◌≡◌, sym, ap, ◌∙◌, subst}
-use mathlib.Core.Bool.{Bool, true, false, true≢false}
+use mathlib.Core.Bool.{Bool, true, false, not, ◌||◌, true≢false}
 use mathlib.Core.List.{List, [], ◌∷◌, ◌++◌}
 use mathlib.Core.Logic.{⊎_elim}
 use native.Mathlib.Nat.{eq-or-lt_of_le}
@@ -11,13 +11,14 @@ use lib.Dec.{eqb, ltb}
 use native.Mathlib.Numerals.{add-one}
 use Rattle.std.specs.Prelude.{Option, Some, None, slice_range}
 use Rattle.std.specs.List.{list_any}
-use Rattle.std.proofs.lemmas.List.{drop-drop}
-use Rattle.std.proofs.lemmas.List.Edits.{split_between, length-between, get_or-between}
+use Rattle.std.proofs.lemmas.List.{drop-drop, drop_all, take_all, append-nil, get_or-append_right, get_or-drop}
+use Rattle.std.proofs.lemmas.List.Folds.{list_any_more, list_any_at}
+use Rattle.std.proofs.lemmas.List.Edits.{split_between, length-between, get_or-between, fill_more}
 use Rattle.std.proofs.lemmas.Simd.{put_chunk_is, get_or-put_chunk_below, get_or-put_chunk_at, get_or-put_chunk_above}
 use lib.Lanes.{put_chunk}
-use lib.ListN.{length, get_or, take, drop, replicate, length-set, length-replicate, get_or-replicate, get_or-eq_default}
+use lib.ListN.{length, get_or, set, take, drop, replicate, length-set, length-replicate, get_or-replicate, get_or-eq_default}
 use lib.Seq.{get_or-set_same, get_or-set_other}
-use borrow.Author.Tests.{eqb-true, eqb-false, ltb-true, ltb-false, not-false}
+use borrow.Author.Tests.{ne_eqb, eqb-true, eqb-false, ltb-true, ltb-false, not-false}
 use Rattle.laws.proofs.OfTests.{by_test_lem, neither}
 use Rattle.units.specs.declared.Quadwords.{Quadwords}
 use Rattle.units.specs.Units.{words, whole_quadwords, quadword_behind}
@@ -69,6 +70,42 @@ some_mark (x ∷ xs) h =
     by_test_lem (eqb x 0)
     (λ e. let later = some_mark xs (rw e at h) in record { place = suc later.place; within_it = omega (arith, later.within_it); marked_there = later.marked_there })
     (λ e. record { place = 0; within_it = omega arith; marked_there = eqb-false x 0 e })
+
+-- quadword by quadword: the first k had no mark and are marked as what goes on there
+pub record Filling (before marks : List ℕ) (k : ℕ) : Type 0 where
+  pub passed : marks ≡ replicate k 1 ++ drop k before
+  pub were_free : list_any is_mark (take k before) ≡ false
+
+module _ (before : List ℕ) where
+  pub filling_none : Filling before before 0
+  filling_none = record { passed = λ i. before; were_free = λ i. false }
+
+  module _ (marks : List ℕ) (k : ℕ) (f : Filling before marks k) where
+    -- the next one's mark is what it was
+    next_mark : get_or marks k 0 ≡ get_or before k 0
+    next_mark =
+        ap (λ (m : List ℕ). get_or m k 0) f.passed
+        ∙ get_or-append_right (replicate k 1) (drop k before) k k 0 (length-replicate k 1) (omega arith)
+        ∙ get_or-drop k before (k - k) 0
+        ∙ ap (λ (i : ℕ). get_or before i 0) (omega arith)
+
+    pub filling-next : k < length before → get_or marks k 0 ≡ 0 → Filling before (set marks k 1) (k + 1)
+    filling-next l z =
+        let e : get_or before k 0 ≡ 0 = sym next_mark ∙ z in
+        record {
+          passed = ap (λ (m : List ℕ). set m k 1) f.passed ∙ fill_more k 1 before l;
+          were_free = list_any_more is_mark before k 0 l ∙ (λ i. f.were_free i || is_mark (e i));
+        }
+
+    pub filling-clash : k < length before → (get_or marks k 0 ≡ 0 → ⊥) → list_any is_mark before ≡ true
+    filling-clash l n = list_any_at is_mark before k 0 l (ap not (ne_eqb (get_or before k 0) 0 (λ e. n (next_mark ∙ e))))
+
+    pub filling-all : k ≤ length before → length before ≤ k → Claimed before false (set marks 0 (length before + 1))
+    filling-all m l =
+        let e : k ≡ length before = omega arith in
+        let all : marks ≡ replicate (length before) 1 =
+        f.passed ∙ ap (λ (r : List ℕ). replicate k 1 ++ r) (drop_all k before l) ∙ append-nil (replicate k 1) ∙ ap (λ (n : ℕ). replicate n 1) e in
+        rw all (claims (ap (list_any is_mark) (sym (take_all k before l)) ∙ f.were_free))
 
 -- n quadwords from s on that had none have those of a range now, and the rest theirs
 record Filled (s n : ℕ) (before after : List ℕ) : Type 0 where

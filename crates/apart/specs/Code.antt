@@ -112,7 +112,7 @@ marks_of n = slice_set (replicate n 1) 0 (n + 1)
 pub data Claimed (before : List ℕ) : Bool → List ℕ → Type 0 where
   again : get_or before 0 0 ≡ length before + 1 → Claimed before false before
   claims : list_any is_mark before ≡ false → Claimed before false (marks_of (length before))
-  clashes : list_any is_mark before ≡ true → (get_or before 0 0 ≡ length before + 1 → ⊥) → Claimed before true before
+  clashes : {after : List ℕ} → list_any is_mark before ≡ true → (get_or before 0 0 ≡ length before + 1 → ⊥) → Claimed before true after
 
 -- and of n quadwords from s on: they do not end by the limit, or that is found of them
 pub data Found (limit s n : ℕ) (before : List ℕ) : Bool → List ℕ → Type 0 where

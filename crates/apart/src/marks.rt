@@ -1,8 +1,7 @@
 // The search for a clause that is not apart from those before it: a mark to each quadword (specs/Code.antt, "marks").
 ghost use Rattle.std.specs.Prelude.{◌≡◌, ◌+◌, ◌≤◌, ◌<◌, length};
 ghost use Rattle.section.specs.Rules.{clause_at};
-ghost use Rattle.std.specs.List.{list_any};
-ghost use Rattle.apart.specs.Code.{FirstUnfit, FirstNotApart, Claimed, Found, quadwords_in, is_mark};
+ghost use Rattle.apart.specs.Code.{FirstUnfit, FirstNotApart, Claimed, Found, quadwords_in};
 
 use section::{Clause, Range};
 use units::{Quadwords, Words};
@@ -74,20 +73,17 @@ fn has_clash(marks: &mut [u8]) -> bool
     requires { (0 < length marks.old) × (length marks.old ≤ 128) }
     ensures { Claimed marks.old result marks.new }
 {
-    let first = marks.len() as u8 + 1;
+    let length = marks.len();
+    let first = length as u8 + 1;
     if marks[0] == first {
         return false;
     }
-    if has_mark(marks) {
-        return true;
+    for mark in marks.iter_mut() {
+        if *mark != 0 {
+            return true;
+        }
+        *mark = 1;
     }
-    marks.fill(1);
     marks[0] = first;
     false
-}
-
-fn has_mark(marks: &[u8]) -> bool
-    ensures { result ≡ list_any is_mark marks.now }
-{
-    marks.iter().any(|mark| *mark != 0)
 }

@@ -62,6 +62,7 @@ pub fn explain_files(text: &[u8], pack: &[u8]) -> Explanation
 }
 
 // Explains an input and writes the lines to the start of `out`; where they do not fit, `out` stays as it was.
+#[tactic(auto, unfolding(crate::specs::Lines::lines_of_input))]
 pub fn write_input_explanation(input: &[u8], out: &mut [u8]) -> Result<usize, TooSmall>
     ensures value { result ≡ written_of (lines_of_input input.now) out.old }
     ensures out_after { out.new ≡ buffer_after (lines_of_input input.now) out.old }
@@ -70,6 +71,7 @@ pub fn write_input_explanation(input: &[u8], out: &mut [u8]) -> Result<usize, To
 }
 
 // The same for a card's file and a pack's.
+#[tactic(auto, unfolding(crate::specs::Lines::lines_of_files))]
 pub fn write_files_explanation(
     text: &[u8],
     pack: &[u8],
