@@ -285,7 +285,6 @@ module _ (clause : Clause) (l : List ℕ) (start : Words) (text : List ℕ) wher
     row_wrong q = kept_wrong (fetch_in row) (row_is (decode_of clause l start) w is) (something_wrong (first_fault (fetch_in row) 0 (lines_in text)) q p.told)
 
     pub row_done : {words_after : List ℕ} {t : ⊤} → answer ≡ Ok t → words_after ≡ fetch_words after l start.0 → Kept (Ok t) words_after
-    unfolding fetch_words
     row_done q e =
         let put : Edited row after text = subst (λ (r : Result ⊤ EditError). OnOk r (Edited row after text)) q p.put in
         kept_done (fetch_in row) (row_is (decode_of clause l start) w is) (nothing_wrong (first_fault (fetch_in row) 0 (lines_in text)) q p.told)

@@ -53,7 +53,6 @@ written_length g vs long =
     )
 
 written_is_fetch : (g : Fetch) (vs : List ℕ) → length vs ≡ 32 → is_fetch (written (fetch_values g) vs) ≡ true
-unfolding is_fetch roomy
 written_is_fetch g vs long = rw (written_length g vs long) (by g)
   where
     by : (g : Fetch) → leb 5 (form_of (written (fetch_values g) vs)) && leb (form_of (written (fetch_values g) vs)) 7 ≡ true
@@ -68,7 +67,6 @@ none_read (Ok f) p q = absurd (cc)
 module _ (clause : Clause) (l : List ℕ) (start : Words) (small : (k : ℕ) → get_or l k 0 < 2 ^ 32) where
   pub one_read : {r : Result ⊤ DecodeError} {t : ⊤} (vs : List ℕ) {row : List ℕ} → length vs ≡ 32 → r ≡ told (decode_of clause l start) → r ≡ Ok t
       → row ≡ fetch_after (decode_of clause l start) vs → RowRead (decode_of clause l start) (Ok row)
-  unfolding roomy
   one_read {r} {t} vs {row} long p q e = by (decode_of clause l start) refl (sym q ∙ p) e
     where
       by : (d : Decoded) → decode_of clause l start ≡ d → Ok t ≡ told d → row ≡ fetch_after d vs → RowRead d (Ok row)
@@ -89,7 +87,6 @@ is_done (Err e) h = absurd (cc)
 
 -- one that is encoded holds a fetch
 pub row_holds : (vs l : List ℕ) (start : ℕ) → length vs ≡ 32 → is_ok (fetch_from vs l start) ≡ true → Holds vs
-unfolding fetch_from
 row_holds vs l start long h =
     by_test_lem (is_fetch vs)
     (λ t. record { long = long; is_a_fetch = t; can = (done_fits (fetch_in vs) l (words start) (is_done (encode_answer (fetch_in vs) l (words start)) (rw t at h))).0 })
@@ -97,7 +94,6 @@ row_holds vs l start long h =
 
 -- and one that isn't, though the words have room, is no record's
 pub row_holds_not : (vs : List ℕ) → is_fetch vs ≡ true → is_ok (fetch_from vs (0 ∷ 0 ∷ 0 ∷ 0 ∷ []) 0) ≡ false → encodable (fetch_in vs) ≡ false
-unfolding fetch_from
 row_holds_not vs t h = by_test_lem (encodable (fetch_in vs)) (λ e. let z : true ≡ false = rw (t, e) at h in absurd (cc)) (λ e. e)
 
 -- ---- the row of a fetch
@@ -130,7 +126,6 @@ row_text row w e =
 -- one of them set: the row of the fetch with that value
 module _ (row : List ℕ) (t : is_fetch row ≡ true) (i n : ℕ) (h : i < length (values_of (fetch_in row))) where
   pub set_is_fetch : is_fetch (set row (suc i) n) ≡ true
-  unfolding is_fetch roomy
   set_is_fetch =
       let first : form_of (set row (suc i) n) ≡ form_of row = get_or-set_other row (suc i) 0 n 0 (λ e. omega arith) in
       rw (length-set row (suc i) n, first) t
