@@ -2,3 +2,4 @@
 pub mod Answer
 pub mod Pair
 pub mod Buffer
+pub mod Code

@@ -10,6 +10,7 @@ ghost use Rattle.std.specs.Prelude.{◌≡◌};
 ghost use Rattle.microcode.specs.Answer.{Done};
 ghost use Rattle.microcode.specs.Pair.{stream_of};
 ghost use Rattle.microcode.specs.Buffer.{decode_of, decoded_from, encode_answer, encode_words, write_answer, write_words, write_number, Rewritten, Answers, not_taken, decoded_verdict, decode_number, encoded_verdict, encode_number};
+ghost use Rattle.microcode.specs.Code.{put_answer, put_words};
 
 use checks::{Place, Refusal, Verdict};
 use formats::alu::{AluWord0, AluWord1Op2, AluWord1Op3};
@@ -75,7 +76,9 @@ pub fn decode(words: &[u32], start: Words, stream: Stream) -> Result<Instruction
     Ok(pair::record(found))
 }
 
-// The form of the pair at `start`, which may be any number, and its words.
+// The form of the pair at `start`, which may be any number, and its words. Inlined, since its answer has two tags that a caller would ask for in
+// memory.
+#[inline]
 pub fn find(words: &[u32], start: Words, stream: Stream) -> Result<FoundPair, DecodeError>
     ensures { decoded_from result ≡ decode_of stream words.now start }
 {
@@ -112,10 +115,21 @@ pub fn write<const N: usize>(
     let Some(words) = words else {
         return Err(EncodeError::NoRecord);
     };
-    if out.len() < start.0 || out.len() - start.0 < N {
+    if out.len() < start.0 {
         return Err(EncodeError::NoRoom);
     }
-    out[start.0..start.0 + N].copy_from_slice(&words);
+    put(words, &mut out[start.0..])
+}
+
+// Words at the beginning of a part, where it has as many.
+fn put<const N: usize>(words: [u32; N], part: &mut [u32]) -> Result<(), EncodeError>
+    ensures value { result ≡ put_answer words.entry part.old }
+    ensures part_after { part.new ≡ put_words words.entry part.old }
+{
+    let Some(place) = part.first_chunk_mut::<N>() else {
+        return Err(EncodeError::NoRoom);
+    };
+    *place = words;
     Ok(())
 }
 
