@@ -1,2 +1,5 @@
 -- The laws that proofs cite, and what holds of the definitions.
 pub mod OfRows
+pub mod OfValues
+pub mod OfFetches
+pub mod OfCodec

@@ -39,7 +39,7 @@ vtx_sem_in vs = VtxSem (vtx.word0_at 1 vs) (vtx.sem_at 9 vs) (vtx.word2_at 20 vs
 unfoldable pub fetch_in : List ℕ → Fetch
 fetch_in vs = cond (eqb (form_of vs) 5) (tex_in vs) (cond (eqb (form_of vs) 6) (vtx_gpr_in vs) (vtx_sem_in vs))
 
-unfoldable pub is_fetch : List ℕ → Bool
+abbrev pub is_fetch : List ℕ → Bool
 is_fetch vs = roomy vs && (leb 5 (form_of vs) && leb (form_of vs) 7)
 
 -- ---- decoding
@@ -57,7 +57,7 @@ clause_number clause.Tex = 1
 clause_number clause.Vtx = 2
 clause_number clause.VtxTc = 3
 
-unfoldable pub clause_numbered : ℕ → Option Clause
+abbrev pub clause_numbered : ℕ → Option Clause
 clause_numbered n =
     cond (eqb n 1) (Some clause.Tex) (cond (eqb n 2) (Some clause.Vtx) (cond (eqb n 3) (Some clause.VtxTc) None))
 
@@ -85,14 +85,14 @@ fetch_row kind l start vs = clause_row (clause_numbered kind) l start vs
 -- ---- encoding
 
 -- what the encoder answers, and before that no record where the row is shorter or its form is no fetch's
-unfoldable pub fetch_from : List ℕ → List ℕ → ℕ → Encoded
+abbrev pub fetch_from : List ℕ → List ℕ → ℕ → Encoded
 fetch_from vs l start = cond (is_fetch vs) (encode_answer (fetch_in vs) l (words start)) (Err NoRecord)
 
 abbrev pub fetch_from_number : List ℕ → List ℕ → ℕ → ℕ
 fetch_from_number vs l start = verdict_number (encoded_verdict (fetch_from vs l start))
 
 -- the words afterwards: a refusal changes none, here or in `encode_words`
-unfoldable pub fetch_words : List ℕ → List ℕ → ℕ → List ℕ
+abbrev pub fetch_words : List ℕ → List ℕ → ℕ → List ℕ
 fetch_words vs l start = cond (is_fetch vs) (encode_words (fetch_in vs) l (words start)) l
 
 -- ---- the round trips

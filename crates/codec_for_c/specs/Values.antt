@@ -87,10 +87,10 @@ record_of vs =
 abbrev pub row_length : ℕ
 row_length = 32
 
-unfoldable pub roomy : List ℕ → Bool
+abbrev pub roomy : List ℕ → Bool
 roomy vs = leb row_length (length vs)
 
-unfoldable pub is_record : List ℕ → Bool
+abbrev pub is_record : List ℕ → Bool
 is_record vs = roomy vs && leb (form_of vs) 4
 
 -- ---- decoding
@@ -116,7 +116,7 @@ abbrev pub stream_number : Stream → ℕ
 stream_number ControlFlow = 0
 stream_number Alu = 1
 
-unfoldable pub stream_numbered : ℕ → Option Stream
+abbrev pub stream_numbered : ℕ → Option Stream
 stream_numbered n = cond (eqb n 0) (Some ControlFlow) (cond (eqb n 1) (Some Alu) None)
 
 -- the values of a record go into such a row; a shorter one has no room for them
@@ -147,14 +147,14 @@ decoded_values stream l start vs = stream_row (stream_numbered stream) l start v
 -- ---- encoding
 
 -- what the encoder answers, and before that no record where the row is shorter or its form is none
-unfoldable pub encoded_from : List ℕ → List ℕ → ℕ → Encoded
+abbrev pub encoded_from : List ℕ → List ℕ → ℕ → Encoded
 encoded_from vs l start = cond (is_record vs) (encode_answer (record_of vs) l (words start)) (Err NoRecord)
 
 abbrev pub encoded_number : List ℕ → List ℕ → ℕ → ℕ
 encoded_number vs l start = verdict_number (encoded_verdict (encoded_from vs l start))
 
 -- the words afterwards: a refusal changes none, here or in `encode_words`
-unfoldable pub encoded_words : List ℕ → List ℕ → ℕ → List ℕ
+abbrev pub encoded_words : List ℕ → List ℕ → ℕ → List ℕ
 encoded_words vs l start = cond (is_record vs) (encode_words (record_of vs) l (words start)) l
 
 -- ---- the round trips
