@@ -91,18 +91,29 @@ fn encode_three<A: Lift, B: Lift, C: Lift>(
     ensures value { let a = A.at 1 row.now in let b = B.at (1 + A.COUNT) row.now in let c = C.at (1 + A.COUNT + B.COUNT) row.now in result ≡ write_answer (words_if (fits_table A.table (A.values a) && fits_table B.table (B.values b) && fits_table C.table (C.values c) && taken) (word_of A.table (A.values a)) (word_of B.table (B.values b)) (word_of C.table (C.values c))) words.old start }
     ensures words_after { let a = A.at 1 row.now in let b = B.at (1 + A.COUNT) row.now in let c = C.at (1 + A.COUNT + B.COUNT) row.now in words.new ≡ write_words (words_if (fits_table A.table (A.values a) && fits_table B.table (B.values b) && fits_table C.table (C.values c) && taken) (word_of A.table (A.values a)) (word_of B.table (B.values b)) (word_of C.table (C.values c))) words.old start }
 {
-    let second = 1 + A::COUNT;
-    let third = second + B::COUNT;
-    if !(taken && A::get(&row[1..]).fits() && B::get(&row[second..]).fits() && C::get(&row[third..]).fits()) {
+    if !three_fit::<A, B, C>(taken, row) {
         return Err(EncodeError::NoRecord);
     }
     if words.len() < start.0 || words.len() - start.0 < 4 {
         return Err(EncodeError::NoRoom);
     }
+    let second = 1 + A::COUNT;
     // The fourth goes first: behind a write to the words the values are read anew.
     words[start.0 + 3] = 0;
     words[start.0] = A::get(&row[1..]).lift();
     words[start.0 + 1] = B::get(&row[second..]).lift();
-    words[start.0 + 2] = C::get(&row[third..]).lift();
+    words[start.0 + 2] = C::get(&row[second + B::COUNT..]).lift();
     Ok(())
+}
+
+// Whether the row's values are within their widths, where the form takes its number. The number goes first, the words one after the other.
+fn three_fit<A: InRow, B: InRow, C: InRow>(taken: bool, row: &Row) -> bool
+    requires { A.COUNT + B.COUNT + C.COUNT ≤ 31 }
+    ensures { let a = A.at 1 row.now in let b = B.at (1 + A.COUNT) row.now in let c = C.at (1 + A.COUNT + B.COUNT) row.now in result ≡ (fits_table A.table (A.values a) && fits_table B.table (B.values b) && fits_table C.table (C.values c) && taken) }
+{
+    let second = 1 + A::COUNT;
+    taken
+        && A::get(&row[1..]).fits()
+        && B::get(&row[second..]).fits()
+        && C::get(&row[second + B::COUNT..]).fits()
 }
