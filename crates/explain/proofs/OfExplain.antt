@@ -89,7 +89,9 @@ module _ (card : Card) (w : List ℕ) where
 -- ---- by a card in bytes
 
 same_whole : {c d : Card} {m n : ℕ} → Whole c m ≡ Whole d n → c ≡ d
-same_whole e = cc
+same_whole {c} {d} {m} {n} e =
+    let both-are : ◌≡◌ {A = Card × ℕ} (c, m) (d, n) = cc in
+    ap (λ (x : Card × ℕ). x.0) both-are
 
 never_both : {P : Type 0} {c : Card} {m : ℕ} {line : BadLine} → Whole c m ≡ Err line → P
 never_both e = impossible cc
