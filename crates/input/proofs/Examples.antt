@@ -8,11 +8,12 @@ use Rattle.card.specs.Card.{card_with, card_of}
 use Rattle.card.specs.Made.{test_of}
 use Rattle.card.specs.declared.Card.{Card}
 use Rattle.card.specs.declared.Kind.TheVariants.{Pixel}
-use Rattle.card.specs.declared.Build.TheVariants as build
+use Rattle.card.specs.declared.Build.TheVariants.{Production, Debug}
 use Rattle.ascii.specs.Decimal.{decimal, decimal_within}
-use Rattle.checks.specs.declared.Verdict.{Verdict}
+use Rattle.std.specs.Prelude.{Some, None}
+use Rattle.checks.specs.Verdict.{Verdict}
 use Rattle.report.specs.Report.{report_lines, report_bytes}
-use Rattle.report.specs.declared.ReportBuild.TheVariants.{Unknown, Production, Debug}
+
 use Rattle.judge.specs.Judge.{judgement}
 use Rattle.input.specs.Words.{words_in}
 use Rattle.input.specs.Input.{answer, bad_line, bad_length, pack_verdict, judged_of, judged_of_files, report_of}
@@ -55,17 +56,17 @@ production = copy_card (text "production")
 abbrev inputs : List (List ℕ × Judged)
 inputs =
     -- the copy pack: what the judge says of its words
-    (production ++ copy_bytes, answer Production (judgement (card_with Pixel build.Production 2 0 0 0 3) copy_words))
-    ∷ (copy_card (text "debug") ++ copy_bytes, answer Debug (judgement (card_with Pixel build.Debug 2 0 0 0 3) copy_words))
+    (production ++ copy_bytes, answer (Some Production) (judgement (card_with Pixel Production 2 0 0 0 3) copy_words))
+    ∷ (copy_card (text "debug") ++ copy_bytes, answer (Some Debug) (judgement (card_with Pixel Debug 2 0 0 0 3) copy_words))
     -- a byte more, a byte less, no pack
-    ∷ (production ++ (copy_bytes ++ (0 ∷ [])), answer Production bad_length)
-    ∷ (production ++ take 23 copy_bytes, answer Production bad_length)
-    ∷ (production, answer Production bad_length)
+    ∷ (production ++ (copy_bytes ++ (0 ∷ [])), answer (Some Production) bad_length)
+    ∷ (production ++ take 23 copy_bytes, answer (Some Production) bad_length)
+    ∷ (production, answer (Some Production) bad_length)
     -- a card that ends too early, one with a wrong line, nothing
-    ∷ (take 64 production, answer Unknown (bad_line 7))
-    ∷ (copy_card (text "release") ++ copy_bytes, answer Unknown (bad_line 2))
-    ∷ (copy_bytes, answer Unknown (bad_line 1))
-    ∷ ([], answer Unknown (bad_line 1))
+    ∷ (take 64 production, answer None (bad_line 7))
+    ∷ (copy_card (text "release") ++ copy_bytes, answer None (bad_line 2))
+    ∷ (copy_bytes, answer None (bad_line 1))
+    ∷ ([], answer None (bad_line 1))
     ∷ []
 
 inputs_judged : map (λ e. judged_of e.0) inputs ≡ map (λ e. e.1) inputs
@@ -76,14 +77,14 @@ inputs_judged = refl
 
 abbrev files : List (List ℕ × List ℕ × Judged)
 files =
-    (production, copy_bytes, answer Production (judgement (card_with Pixel build.Production 2 0 0 0 3) copy_words))
+    (production, copy_bytes, answer (Some Production) (judgement (card_with Pixel Production 2 0 0 0 3) copy_words))
     -- the pack's first eight bytes moved behind the card; an empty line there
-    ∷ (production ++ take 8 copy_bytes, drop 8 copy_bytes, answer Unknown (bad_line 8))
-    ∷ (production ++ text "\n", copy_bytes, answer Unknown (bad_line 8))
+    ∷ (production ++ take 8 copy_bytes, drop 8 copy_bytes, answer None (bad_line 8))
+    ∷ (production ++ text "\n", copy_bytes, answer None (bad_line 8))
     -- a byte more in the pack; a card that ends too early, though the pack would go on with it; a wrong line, with bytes behind the card
-    ∷ (production, copy_bytes ++ (0 ∷ []), answer Production bad_length)
-    ∷ (take 64 production, drop 64 production ++ copy_bytes, answer Unknown (bad_line 7))
-    ∷ (copy_card (text "release") ++ text "\n", copy_bytes, answer Unknown (bad_line 2))
+    ∷ (production, copy_bytes ++ (0 ∷ []), answer (Some Production) bad_length)
+    ∷ (take 64 production, drop 64 production ++ copy_bytes, answer None (bad_line 7))
+    ∷ (copy_card (text "release") ++ text "\n", copy_bytes, answer None (bad_line 2))
     ∷ []
 
 files_judged : map (λ e. judged_of_files e.0 e.1) files ≡ map (λ e. e.2) files
@@ -97,7 +98,7 @@ nothing_reported = refl
 
 -- ---- a card that a caller makes, by its gprs and quads, with the copy pack and with a byte less: 1 before 2
 abbrev made : ℕ → ℕ → Card
-made gprs quads = card_with Pixel build.Production gprs 0 0 0 quads
+made gprs quads = card_with Pixel Production gprs 0 0 0 quads
 
 abbrev verdicts : List (Card × List ℕ × Verdict)
 verdicts =

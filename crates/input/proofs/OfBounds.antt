@@ -7,13 +7,10 @@ use lib.Dec.{eqb}
 use lib.ListN.{length, drop}
 use Prim.Native.Nat.{ℕ, suc, ◌≤◌}
 use native.Mathlib.Omega.{arith}
-use Rattle.card.specs.Card.{card_lines, card_of}
-use Rattle.card.specs.Made.{test_of}
+use Rattle.std.specs.Prelude.{Err}
+use Rattle.card.specs.Card.{CardRead, Whole, card_lines, card_of}
+use Rattle.card.specs.Made.{CardTest, InRange, test_of}
 use Rattle.card.specs.declared.Card.{Card}
-use Rattle.card.specs.declared.CardRead.{CardRead}
-use Rattle.card.specs.declared.CardRead.TheVariants.{Whole, BadLine}
-use Rattle.card.specs.declared.CardTest.{CardTest}
-use Rattle.card.specs.declared.CardTest.TheVariants as test
 use Rattle.card.proofs.OfCard.{bad_line_lem, bad_figure}
 use Rattle.report.proofs.OfReport.{at_most_111_bytes}
 use Rattle.judge.specs.Judge.{judgement}
@@ -34,15 +31,15 @@ pack_narrow card pack = by (test_of card) refl
     by_right false = length_narrow
 
     by : (t : CardTest) → test_of card ≡ t → Narrow (by_test card pack t)
-    by (test.BadLine n) e = line_narrow n (omega (arith, (bad_figure card n e).1))
-    by test.InRange e = by_right (right_length card.quads (length pack))
+    by (Err bad) e = line_narrow bad.0 (omega (arith, (bad_figure card bad.0 e).1))
+    by InRange e = by_right (right_length card.quads (length pack))
 
 pub input_narrow : (input : List ℕ) → Narrow (judged_of input).verdict
 unfolding judged_of
 input_narrow input = by (card_of input) refl
   where
     by : (r : CardRead) → card_of input ≡ r → Narrow (behind_card input r).verdict
-    by (BadLine n) e = line_narrow n (omega (arith, (bad_line_lem input n e).1))
+    by (Err bad) e = line_narrow bad.0 (omega (arith, (bad_line_lem input bad.0 e).1))
     by (Whole card n) e = pack_narrow card (drop n input)
 
 pub files_narrow : (text pack : List ℕ) → Narrow (judged_of_files text pack).verdict
@@ -54,7 +51,7 @@ files_narrow text pack = by (card_of text) refl
     by_end card false = line_narrow (suc card_lines) (omega arith)
 
     by : (r : CardRead) → card_of text ≡ r → Narrow (beside_card text pack r).verdict
-    by (BadLine n) e = line_narrow n (omega (arith, (bad_line_lem text n e).1))
+    by (Err bad) e = line_narrow bad.0 (omega (arith, (bad_line_lem text bad.0 e).1))
     by (Whole card n) e = by_end card (eqb n (length text))
 
 -- ---- reports

@@ -10,21 +10,17 @@ use lib.ListN.{length, drop}
 use lib.Seq.{drop-append_seam}
 use Rattle.laws.proofs.OfTests.{same_test}
 use Rattle.units.specs.declared.Quadwords.{Quadwords}
-use Rattle.checks.specs.declared.Verdict.{Verdict}
-use Rattle.card.specs.Card.{card_lines, card_of}
-use Rattle.card.specs.Made.{test_of}
-use Rattle.card.specs.declared.Build.{Build}
+use Rattle.std.specs.Prelude.{Err}
+use Rattle.checks.specs.Verdict.{Verdict}
+use Rattle.card.specs.Card.{CardRead, Whole, BadAt, card_lines, card_of}
+use Rattle.card.specs.Made.{CardTest, InRange, test_of}
 use Rattle.card.specs.declared.Card.{Card}
-use Rattle.card.specs.declared.CardRead.{CardRead}
-use Rattle.card.specs.declared.CardRead.TheVariants as read
-use Rattle.card.specs.declared.CardTest.{CardTest}
-use Rattle.card.specs.declared.CardTest.TheVariants as test
 use Rattle.card.proofs.OfCard.{whole_length, whole_in_range, whole_all, range_figures}
 use Rattle.card.proofs.OfBehind.{card_ahead}
 use Rattle.judge.specs.Judge.{judgement}
 use Rattle.judge.proofs.OfJudge as of-judge
 use Rattle.input.specs.Words.{words_in}
-use Rattle.input.specs.Input.{shown, bad_line, bad_length, right_length, by_test, pack_verdict, judged_by, without_card, behind_card, judged_of, beside_card, judged_of_files, AllLines, report_on, report_of, report_of_files}
+use Rattle.input.specs.Input.{bad_line, bad_length, right_length, by_test, pack_verdict, judged_by, without_card, behind_card, judged_of, beside_card, judged_of_files, AllLines, report_on, report_of, report_of_files}
 use Rattle.input.specs.declared.Judged.{Judged}
 
 -- ---- the length
@@ -43,11 +39,11 @@ module _ (quads : Quadwords) (bytes : ℕ) where
 
 -- 1: the card's first line out of range
 pub bad_card : (card : Card) (pack : List ℕ) {known : CardTest} {n : ℕ} {verdict : Verdict} → known ≡ test_of card
-    → known ≡ test.BadLine n → verdict ≡ bad_line n → verdict ≡ pack_verdict card pack
+    → known ≡ BadAt n → verdict ≡ bad_line n → verdict ≡ pack_verdict card pack
 unfolding pack_verdict
 bad_card card pack told h v = v ∙ ap (by_test card pack) (sym h ∙ told)
 
-module _ (card : Card) (pack : List ℕ) (in_range : test_of card ≡ test.InRange) where
+module _ (card : Card) (pack : List ℕ) (in_range : test_of card ≡ InRange) where
   -- 2 and the judge's numbers, by the length
   pub by_length : pack_verdict card pack ≡ cond (right_length card.quads (length pack)) (judgement card (words_in pack)) bad_length
   unfolding pack_verdict
@@ -83,18 +79,15 @@ as_judged card pack h = by_test_lem (test_of card) refl h
 
     by_test_lem : (known : CardTest) → test_of card ≡ known → (by_test card pack known ≡ bad_length → ⊥)
         → by_test card pack known ≡ judgement card (words_in pack)
-    by_test_lem (test.BadLine n) e h = (of-judge.bad_card card (words_in pack) refl e refl).0
-    by_test_lem test.InRange e h = by_right (right_length card.quads (length pack)) h
+    by_test_lem (Err bad) e h = (of-judge.bad_card card (words_in pack) refl e refl).0
+    by_test_lem InRange e h = by_right (right_length card.quads (length pack)) h
 
 -- ---- the card and the pack
-
-pub shown_as_told : {build told : Build} → build ≡ told → shown told ≡ shown build
-shown_as_told e = sym (ap shown e)
 
 -- what was read of a card's bytes, as the code knows it
 module _ (text : List ℕ) {known : CardRead} (told : known ≡ card_of text) where
   -- a line is at fault
-  module _ {n : ℕ} {judged : Judged} (h : known ≡ read.BadLine n) (v : judged ≡ without_card n) where
+  module _ {n : ℕ} {judged : Judged} (h : known ≡ BadAt n) (v : judged ≡ without_card n) where
     pub bad-line-answer : judged ≡ judged_of text
     unfolding judged_of
     bad-line-answer = v ∙ ap (behind_card text) (sym h ∙ told)
@@ -104,11 +97,11 @@ module _ (text : List ℕ) {known : CardRead} (told : known ≡ card_of text) wh
     bad-line-beside pack = v ∙ ap (beside_card text pack) (sym h ∙ told)
 
   -- the card is whole
-  module _ {card : Card} {taken : ℕ} (h : known ≡ read.Whole card taken) where
+  module _ {card : Card} {taken : ℕ} (h : known ≡ Whole card taken) where
     pub taken-within : taken ≤ length text
     taken-within = whole_length text card taken (sym told ∙ h)
 
-    pub read-in-range : test_of card ≡ test.InRange
+    pub read-in-range : test_of card ≡ InRange
     read-in-range = whole_in_range text card taken (sym told ∙ h)
 
     pub whole-answer : {pack : List ℕ} {judged : Judged} → pack ≡ drop taken text → judged ≡ judged_by card pack → judged ≡ judged_of text
@@ -134,11 +127,11 @@ all_lines text pack s =
     by (card_of text) refl ∙ sym (ap (behind_card (text ++ pack)) (card_ahead text pack s.last s.is_there))
   where
     by : (known : CardRead) → card_of text ≡ known → beside_card text pack known ≡ behind_card (text ++ pack) known
-    by (read.Whole card n) e =
+    by (Whole card n) e =
         let l : n ≡ length text = whole_all text card n e s.none_behind in
         rw (eq-eqb n (length text) l)
         (ap (judged_by card) (sym (drop-append_seam text pack) ∙ ap (λ (k : ℕ). drop k (text ++ pack)) (sym l)))
-    by (read.BadLine n) e = refl
+    by (Err bad) e = refl
 
 -- ---- the report
 

@@ -10,16 +10,14 @@ use lib.Dec.{eqb, ltb}
 use lib.ListN.{length, take, drop, length-take}
 use lib.Seq.{take_all}
 use Rattle.laws.proofs.OfTests.{same_test}
-use Rattle.checks.specs.declared.Verdict.{Verdict}
-use Rattle.card.specs.Card.{card_lines, card_of}
-use Rattle.card.specs.Made.{test_of}
-use Rattle.card.specs.declared.CardRead.{CardRead}
-use Rattle.card.specs.declared.CardRead.TheVariants.{Whole, BadLine}
-use Rattle.card.specs.declared.CardTest.TheVariants.{InRange}
+use Rattle.std.specs.Prelude.{Some, Err}
+use Rattle.checks.specs.Verdict.{Verdict}
+use Rattle.card.specs.Card.{CardRead, Whole, card_lines, card_of}
+use Rattle.card.specs.Made.{InRange, test_of}
 use Rattle.card.specs.declared.Card.{Card}
 use Rattle.card.proofs.OfCard.{whole_in_range, range_figures}
 use Rattle.card.proofs.OfCut.{drop_take, card_cut, whole_short}
-use Rattle.input.specs.Input.{answer, shown, bad_length, pack_verdict, judged_by, without_card, behind_card, judged_of, beside_card, judged_of_files, report_of, report_of_files}
+use Rattle.input.specs.Input.{answer, bad_length, pack_verdict, judged_by, without_card, behind_card, judged_of, beside_card, judged_of_files, report_of, report_of_files}
 use Rattle.input.proofs.OfInput.{wrong_length, bad-length, report_on_lem, report_on_files}
 
 -- ---- the pack
@@ -50,9 +48,9 @@ enough_read input all h = ap (behind_card (take all input)) (card_cut input all 
     by : (known : CardRead) → card_of input ≡ known → behind_card (take all input) known ≡ behind_card input known
     by (Whole card n) e =
         let short = whole_short input card n e in
-        ap (answer (shown card.build))
+        ap (answer (Some card.build))
         (ap (pack_verdict card) (drop_take n all input) ∙ pack_cut card (whole_in_range input card n e) (drop n input) (all - n) (omega arith))
-    by (BadLine n) e = refl
+    by (Err bad) e = refl
 
 -- so a program that reads so many bytes writes the report on its whole input
 pub enough : (input : List ℕ) (all : ℕ) → 65610 ≤ all → report_of (take all input) ≡ report_of input
@@ -74,7 +72,7 @@ module _ (text pack : List ℕ) where
           (λ t. eq-eqb n (length (take all text)) (omega (arith, eqb-true n (length text) t, length-take all text)))
           (λ t. ne_eqb n (length (take all text)) (λ q. eqb-false n (length text) t (omega (arith, length-take all text)))) in
           ap (λ (t : Bool). cond t (judged_by card pack) (without_card (suc card_lines))) same
-      by (BadLine n) e = refl
+      by (Err bad) e = refl
 
   -- and 65,537 of the pack's, one more than the longest pack has
   pub enough_of_pack : (all : ℕ) → 65537 ≤ all → judged_of_files text (take all pack) ≡ judged_of_files text pack
@@ -83,9 +81,9 @@ module _ (text pack : List ℕ) where
     where
       by : (known : CardRead) → card_of text ≡ known → beside_card text (take all pack) known ≡ beside_card text pack known
       by (Whole card n) e =
-          ap (λ (v : Verdict). cond (eqb n (length text)) (answer (shown card.build) v) (without_card (suc card_lines)))
+          ap (λ (v : Verdict). cond (eqb n (length text)) (answer (Some card.build) v) (without_card (suc card_lines)))
           (pack_cut card (whole_in_range text card n e) pack all h)
-      by (BadLine n) e = refl
+      by (Err bad) e = refl
 
   -- so a program that reads so many bytes writes the report on the whole files
   pub card_enough : (all : ℕ) → 74 ≤ all → report_of_files (take all text) pack ≡ report_of_files text pack

@@ -12,35 +12,27 @@ use lib.Dec.{eqb}
 use lib.ListN.{length, take, drop, drop_of_length-le}
 use lib.Seq.{take_at, drop-append_seam}
 use Rattle.laws.proofs.OfCases.{impossible}
-use Rattle.checks.specs.declared.Verdict.TheVariants.{Accepted}
+use Rattle.std.specs.Prelude.{Option, Some, None, Err}
+use Rattle.checks.specs.Verdict.{Accepted}
 use Rattle.checks.proofs.OfChecks.{never_accepted}
-use Rattle.card.specs.Card.{card_lines, card_of}
-use Rattle.card.specs.Made.{test_of}
+use Rattle.card.specs.Card.{CardRead, Whole, card_lines, card_of}
+use Rattle.card.specs.Made.{InRange, test_of}
 use Rattle.card.specs.Written.{written}
 use Rattle.card.specs.declared.Build.{Build}
-use Rattle.card.specs.declared.Build.TheVariants as build
+use Rattle.card.specs.declared.Build.TheVariants.{Production}
 use Rattle.card.specs.declared.Card.{Card}
-use Rattle.card.specs.declared.CardRead.{CardRead}
-use Rattle.card.specs.declared.CardRead.TheVariants.{Whole, BadLine}
-use Rattle.card.specs.declared.CardTest.TheVariants.{InRange}
 use Rattle.card.proofs.OfCard.{whole_in_range, range_figures, figures_range}
 use Rattle.card.proofs.OfWritten.{read_written, written_read}
-use Rattle.report.specs.Buffer.{room, written_of, buffer_after}
-use Rattle.report.specs.declared.ReportBuild.TheVariants.{Production}
-use Rattle.report.specs.declared.Written.TheVariants.{Length, TooSmall}
+use Rattle.report.specs.Buffer.{Length, NoRoom, room, written_of, buffer_after}
 use Rattle.report.proofs.OfReport.{release_yes}
 use Rattle.judge.specs.Judge.{judgement}
 use Rattle.judge.specs.Safe.{Safely}
 use Rattle.judge.proofs.OfSafe.{accepted_safely}
 use Rattle.input.specs.Words.{words_in}
-use Rattle.input.specs.Input.{answer, shown, bad_length, right_length, pack_verdict, judged_by, without_card, behind_card, judged_of, beside_card, judged_of_files, report_of, report_of_files}
+use Rattle.input.specs.Input.{answer, bad_length, right_length, pack_verdict, judged_by, without_card, behind_card, judged_of, beside_card, judged_of_files, report_of, report_of_files}
 use Rattle.input.specs.Released.{Released, ReleasedInput, SaysYes, FilesTold, ReleaseTold}
 use Rattle.input.specs.declared.Judged.{Judged}
 use Rattle.input.proofs.OfInput.{by_length, judged-verdict}
-
-production_shown : (b : Build) → shown b ≡ Production → b ≡ build.Production
-production_shown build.Production h = refl
-production_shown build.Debug h = impossible cc
 
 -- a pack that is accepted has the right length, and its words are accepted
 accepted_pack : (card : Card) (pack : List ℕ) → test_of card ≡ InRange → pack_verdict card pack ≡ Accepted
@@ -53,7 +45,7 @@ accepted_pack card pack r h = by (right_length card.quads (length pack)) refl (s
     by false e h = absurd (never_accepted h)
 
 -- a card and a pack that are answered so are released
-by_card : (card : Card) (pack : List ℕ) → test_of card ≡ InRange → pack_verdict card pack ≡ Accepted → shown card.build ≡ Production
+by_card : (card : Card) (pack : List ℕ) → test_of card ≡ InRange → pack_verdict card pack ≡ Accepted → card.build ≡ Production
     → (text : List ℕ) → text ≡ written card → Released text pack
 by_card card pack r v b text e =
     let w = accepted_pack card pack r v in
@@ -61,36 +53,36 @@ by_card card pack r v b text e =
       card = card;
       is_card = e;
       in_range = range_figures card r;
-      production = production_shown card.build b;
+      production = b;
       length_is_right = w.0;
       accepted = w.1;
     }
 
 -- and the other way round
-released_by : (text pack : List ℕ) (r : Released text pack) → judged_by r.card pack ≡ answer Production Accepted
+released_by : (text pack : List ℕ) (r : Released text pack) → judged_by r.card pack ≡ answer (Some Production) Accepted
 released_by text pack r =
     let test = figures_range r.card r.in_range in
     let l = eq-eqb (length pack) (8 * r.card.quads.0) r.length_is_right in
-    (λ i. answer (shown (r.production i)) (pack_verdict r.card pack))
-    ∙ ap (answer Production) (sym (judged-verdict r.card pack test (sym l) refl (sym r.accepted)))
+    (λ i. answer (Some (r.production i)) (pack_verdict r.card pack))
+    ∙ ap (answer (Some Production)) (sym (judged-verdict r.card pack test (sym l) refl (sym r.accepted)))
 
 -- ---- each in a file
 
 files_released : (text pack : List ℕ) (known : CardRead) → card_of text ≡ known → (beside_card text pack known).verdict ≡ Accepted
-    → (beside_card text pack known).build ≡ Production → Released text pack
+    → (beside_card text pack known).build ≡ Some Production → Released text pack
 files_released text pack (Whole card n) e v b = by (eqb n (length text)) refl v b
   where
     by : (x : Bool) → eqb n (length text) ≡ x → (cond x (judged_by card pack) (without_card (suc card_lines))).verdict ≡ Accepted
-        → (cond x (judged_by card pack) (without_card (suc card_lines))).build ≡ Production → Released text pack
+        → (cond x (judged_by card pack) (without_card (suc card_lines))).build ≡ Some Production → Released text pack
     by true l v b =
         let l = eqb-true n (length text) l in
         let nothing : drop n text ≡ [] = drop_of_length-le text {i = n} (omega arith) in
         by_card card pack (whole_in_range text card n e) v b text
         (read_written text card n e ∙ ap (λ (behind : List ℕ). written card ++ behind) nothing ∙ append-nil (written card))
     by false l v b = absurd (never_accepted v)
-files_released text pack (BadLine n) e v b = absurd (never_accepted v)
+files_released text pack (Err bad) e v b = absurd (never_accepted v)
 
-released_files : (text pack : List ℕ) (r : Released text pack) → judged_of_files text pack ≡ answer Production Accepted
+released_files : (text pack : List ℕ) (r : Released text pack) → judged_of_files text pack ≡ answer (Some Production) Accepted
 unfolding judged_of_files
 released_files text pack r =
     let test = figures_range r.card r.in_range in
@@ -103,7 +95,7 @@ released_files text pack r =
 
 -- the build is production and the verdict 0 exactly if the files are released
 pub files_answered : (text pack : List ℕ)
-    → (((judged_of_files text pack).verdict ≡ Accepted) × ((judged_of_files text pack).build ≡ Production)) ↔ Released text pack
+    → (((judged_of_files text pack).verdict ≡ Accepted) × ((judged_of_files text pack).build ≡ Some Production)) ↔ Released text pack
 unfolding judged_of_files
 files_answered text pack = (
   λ w. files_released text pack (card_of text) refl w.0 w.1,
@@ -127,7 +119,7 @@ released_safely text pack r = accepted_safely r.card (words_in pack) r.accepted
 -- ---- one behind the other
 
 judged_released : (input : List ℕ) (known : CardRead) → card_of input ≡ known → (behind_card input known).verdict ≡ Accepted
-    → (behind_card input known).build ≡ Production → ReleasedInput input
+    → (behind_card input known).build ≡ Some Production → ReleasedInput input
 judged_released input (Whole card n) e v b =
     record {
       text = written card;
@@ -135,9 +127,9 @@ judged_released input (Whole card n) e v b =
       is_both = read_written input card n e;
       released = by_card card (drop n input) (whole_in_range input card n e) v b (written card) refl;
     }
-judged_released input (BadLine n) e v b = absurd (never_accepted v)
+judged_released input (Err bad) e v b = absurd (never_accepted v)
 
-released_judged : (input : List ℕ) → ReleasedInput input → judged_of input ≡ answer Production Accepted
+released_judged : (input : List ℕ) → ReleasedInput input → judged_of input ≡ answer (Some Production) Accepted
 unfolding judged_of
 released_judged input r =
     let card = r.released.card in
@@ -148,7 +140,7 @@ released_judged input r =
     ap (drop (length (written card))) both ∙ drop-append_seam (written card) r.pack in
     ap (behind_card input) e ∙ ap (judged_by card) p ∙ released_by r.text r.pack r.released
 
-of_answer : (input : List ℕ) → ((judged_of input).verdict ≡ Accepted) × ((judged_of input).build ≡ Production) → ReleasedInput input
+of_answer : (input : List ℕ) → ((judged_of input).verdict ≡ Accepted) × ((judged_of input).build ≡ Some Production) → ReleasedInput input
 unfolding judged_of
 of_answer input w = judged_released input (card_of input) refl w.0 w.1
 
@@ -168,7 +160,7 @@ written_bytes : (report buffer : List ℕ) (n : ℕ) → Length n ≡ written_of
 unfolding written_of buffer_after
 written_bytes report buffer n e = by (room report buffer) e
   where
-    by : (x : Bool) → Length n ≡ cond x (Length (length report)) TooSmall
+    by : (x : Bool) → Length n ≡ cond x (Length (length report)) NoRoom
         → take n (cond x (report ++ drop (length report) buffer) buffer) ≡ report
     by true e =
         let k : length report ≡ n = cc in

@@ -1,5 +1,5 @@
 -- The words of some bytes one by one, and a room that is filled with them word by word. Assumes nothing.
-use mathlib.Core.Path.{◌≡◌, refl, ap, sym, ◌∙◌}
+use mathlib.Core.Path.{◌≡◌, refl, ap, ap₂, sym, ◌∙◌}
 use mathlib.Core.List.{List, [], ◌∷◌, ◌++◌, append_assoc}
 use mathlib.Core.Bool.{true, false}
 use Prim.Native.Nat.{ℕ, zero, suc, ◌+◌, ◌*◌, ◌/◌, ◌%◌, ◌^◌, ◌≤◌, ◌<◌, min}
@@ -7,9 +7,12 @@ use native.Mathlib.Nat.{zero-add, min-le_left, min-le_right, min-eq_left, mod-eq
 use native.Mathlib.Numerals.{add-one}
 use native.Mathlib.Omega.{arith}
 use lib.Dec.{ltb}
-use lib.ListN.{length, get_or, take, drop, set, length-set, drop_of_length-le, get_or-eq_default}
+use lib.ListN.{length, get_or, take, drop, set, length-set, drop_of_length-le, take-append-drop, get_or-eq_default}
 use borrow.Author.Tests.{ltb-true, ltb-false}
 use lib.Seq.{drop-cons, drop-drop, drop_at, take-suc, take_all, take_at, take-append_seam, length-take-le, set_at, sets, sets-eq, length-sets}
+use Rattle.std.specs.Int.{to_le_bytes, w32}
+use Rattle.std.proofs.lemmas.Slice.{take-put_mid, drop-put_mid}
+use borrow.Rule.Slice.PartMut.{put_mid}
 use Rattle.laws.proofs.OfTests.{by_test_lem}
 use Rattle.units.specs.Code.{capped}
 use Rattle.input.specs.Words.{little_endian, words_in, word_at, word_bytes, bytes_of, stored_in}
@@ -67,44 +70,21 @@ cut_word w n {i} few e = by_test_lem (ltb n (length w)) inside behind
 
 -- ---- word by word, as the loop puts them
 
--- the first i of n words are loaded into a room that has a place for each
-pub record Loading (bytes room later : List ℕ) (n i : ℕ) : Type 0 where
-  pub count : n ≡ min (length bytes / 4) (length room)
-  pub within : i ≤ n
-  pub same_length : length later ≡ length room
-  pub so_far : later ≡ take i (words_in bytes) ++ drop i room
-
-pub none_loaded : (bytes room : List ℕ) {n : ℕ} → n ≡ min (length bytes / 4) (length room) → Loading bytes room room n 0
-none_loaded bytes room e = record { count = e; within = omega arith; same_length = refl; so_far = refl }
-
-module _ {bytes room later : List ℕ} {n i : ℕ} (l : Loading bytes room later n i) (h : i < n) where
-  pub word_there : i < length bytes / 4
-  word_there = omega (arith, l.count, min-le_left (length bytes / 4) (length room))
-
-  pub place_there : i < length later
-  place_there = omega (arith, l.count, l.same_length, min-le_right (length bytes / 4) (length room))
-
-  pub one_more_loaded : {w : ℕ} → w ≡ word_at bytes (i * 4) → Loading bytes room (set later i w) n (i + 1)
-  one_more_loaded {w} e =
-      let ws = words_in bytes in
-      let inside : i < length ws = omega (arith, word_there, words_length bytes) in
-      let first_part : length (take i ws) ≡ i = length-take-le i ws (omega arith) in
-      let next : drop i room ≡ get_or room i 0 ∷ drop (suc i) room = drop-cons room i 0 (omega (arith, place_there, l.same_length)) in
-      record {
-        count = l.count;
-        within = omega arith;
-        same_length = length-set later i w ∙ l.same_length;
-        so_far =
-            ap (λ (r : List ℕ). set r i w) (l.so_far ∙ ap (λ (r : List ℕ). take i ws ++ r) next)
-            ∙ set_at (take i ws) (get_or room i 0) (drop (suc i) room) w i first_part
-            ∙ ap (λ (x : ℕ). take i ws ++ (x ∷ drop (suc i) room)) (e ∙ sym (word_is bytes i word_there))
-            ∙ sym (append_assoc (take i ws) (get_or ws i 0 ∷ []) (drop (suc i) room))
-            ∙ ap (λ (r : List ℕ). r ++ drop (suc i) room) (sym (take-suc ws i 0 inside))
-            ∙ ap (λ (k : ℕ). take k ws ++ drop k room) (sym (add-one i));
-      }
-
-pub all_loaded : {bytes room later : List ℕ} {n i : ℕ} → Loading bytes room later n i → n ≤ i → later ≡ take n (words_in bytes) ++ drop n room
-all_loaded {bytes} {room} {later} {n} {i} l h = let e : i ≡ n = omega (arith, l.within) in l.so_far ∙ ap (λ (k : ℕ). take k (words_in bytes) ++ drop k room) e
+-- the first i words are loaded, and now one more
+pub one_more_loaded :
+    (bytes room later : List ℕ) (i : ℕ) {w : ℕ} → later ≡ take i (words_in bytes) ++ drop i room → i < length bytes / 4 → i < length room
+    → w ≡ word_at bytes (i * 4) → set later i w ≡ take (i + 1) (words_in bytes) ++ drop (i + 1) room
+one_more_loaded bytes room later i {w} so_far there place e =
+    let ws = words_in bytes in
+    let inside : i < length ws = omega (arith, words_length bytes) in
+    let first_part : length (take i ws) ≡ i = length-take-le i ws (omega arith) in
+    let next : drop i room ≡ get_or room i 0 ∷ drop (suc i) room = drop-cons room i 0 place in
+    ap (λ (r : List ℕ). set r i w) (so_far ∙ ap (λ (r : List ℕ). take i ws ++ r) next)
+    ∙ set_at (take i ws) (get_or room i 0) (drop (suc i) room) w i first_part
+    ∙ ap (λ (x : ℕ). take i ws ++ (x ∷ drop (suc i) room)) (e ∙ sym (word_is bytes i there))
+    ∙ sym (append_assoc (take i ws) (get_or ws i 0 ∷ []) (drop (suc i) room))
+    ∙ ap (λ (r : List ℕ). r ++ drop (suc i) room) (sym (take-suc ws i 0 inside))
+    ∙ ap (λ (k : ℕ). take k ws ++ drop k room) (sym (add-one i))
 
 -- a room with a place for each word begins with them all
 pub whole_loaded : (bytes room : List ℕ) {later : List ℕ} {n : ℕ} → length bytes / 4 ≤ length room → n ≡ min (length bytes / 4) (length room)
@@ -146,61 +126,39 @@ bytes_drop (suc n) (w ∷ ws) =
     let four-more : suc n * 4 ≡ suc (suc (suc (suc (n * 4)))) = omega arith in
     ap (λ (k : ℕ). drop k (bytes_of (w ∷ ws))) four-more ∙ bytes_drop n ws
 
--- four bytes put one behind the other
-pub four_put : (l : List ℕ) (at w : ℕ) {a b c d : ℕ} → a ≡ w % 256 → b ≡ w / 256 % 256 → c ≡ w / 256 / 256 % 256 → d ≡ w / 256 / 256 / 256 % 256
-    → set (set (set (set l at a) (at + 1) b) (at + 2) c) (at + 3) d ≡ sets l at (word_bytes w)
-four_put l at w e f g h =
-    let one_on : at + 1 ≡ suc at = omega arith in
-    let two-on : at + 2 ≡ suc (suc at) = omega arith in
-    let three-on : at + 3 ≡ suc (suc (suc at)) = omega arith in
-    (λ i. set (set (set (set l at (e i)) (one_on i) (f i)) (two-on i) (g i)) (three-on i) (h i))
+-- the library's bytes of a word
+pub word_bytes_are : (w : ℕ) → to_le_bytes w32 w ≡ word_bytes w
+word_bytes_are w =
+    let third : w / 65536 % 256 ≡ w / 256 / 256 % 256 = omega arith in
+    let fourth : w / 16777216 % 256 ≡ w / 256 / 256 / 256 % 256 = omega arith in
+    (λ i. w % 256 ∷ w / 256 % 256 ∷ third i ∷ fourth i ∷ [])
 
--- the first i of n words are stored over bytes that have a place for each
-pub record Storing (words bytes later : List ℕ) (n i : ℕ) : Type 0 where
-  pub count : n ≡ min (length words) (length bytes / 4)
-  pub within : i ≤ n
-  pub same_length : length later ≡ length bytes
-  pub so_far : later ≡ bytes_of (take i words) ++ drop (i * 4) bytes
-
-pub none_stored : (words bytes : List ℕ) {n : ℕ} → n ≡ min (length words) (length bytes / 4) → Storing words bytes bytes n 0
-unfolding bytes_of
-none_stored words bytes e = record { count = e; within = omega arith; same_length = refl; so_far = refl }
-
-module _ {words bytes later : List ℕ} {n i : ℕ} (s : Storing words bytes later n i) (h : i < n) where
-  pub word_read : i < length words
-  word_read = omega (arith, s.count, min-le_left (length words) (length bytes / 4))
-
-  pub place_left : i * 4 + 4 ≤ length later
-  place_left = omega (arith, s.count, s.same_length, min-le_right (length words) (length bytes / 4))
-
-  pub one_more_stored : {after : List ℕ} → after ≡ sets later (i * 4) (word_bytes (get_or words i 0)) → Storing words bytes after n (i + 1)
-  one_more_stored put =
-      let w = get_or words i 0 in
-      let before = bytes_of (take i words) in
-      let size : length before ≡ i * 4 = bytes_length (take i words) ∙ ap (λ (k : ℕ). k * 4) (length-take-le i words (omega (arith, word_read))) in
-      let first_part : take (i * 4) later ≡ before = ap (take (i * 4)) s.so_far ∙ take_at before (drop (i * 4) bytes) (i * 4) size in
-      let place : i * 4 + 4 ≡ (i + 1) * 4 = omega arith in
-      let last-part : drop (i * 4 + 4) later ≡ drop ((i + 1) * 4) bytes =
-      sym (drop-drop 4 (i * 4) later)
-      ∙ ap (drop 4) (ap (drop (i * 4)) s.so_far ∙ drop_at before (drop (i * 4) bytes) (i * 4) size)
-      ∙ drop-drop 4 (i * 4) bytes
-      ∙ ap (λ (k : ℕ). drop k bytes) place in
-      record {
-        count = s.count;
-        within = omega arith;
-        same_length = ap length put ∙ length-sets later (i * 4) (word_bytes w) ∙ s.same_length;
-        so_far =
-            put
-            ∙ sets-eq (word_bytes w) later (i * 4) place_left
-            ∙ (λ j. first_part j ++ word_bytes w ++ last-part j)
-            ∙ ap (λ (r : List ℕ). r ++ drop ((i + 1) * 4) bytes)
-            (sym (bytes_snoc (take i words) w) ∙ ap bytes_of (sym (take-suc words i 0 word_read) ∙ ap (λ (k : ℕ). take k words) (sym (add-one i))));
-      }
-
-pub all_stored : {words bytes later : List ℕ} {n i : ℕ} → Storing words bytes later n i → n ≤ i → later ≡ stored_in words bytes
-all_stored {words} {bytes} {later} {n} {i} s h =
-    let e : i ≡ min (length words) (length bytes / 4) = omega (arith, s.within, s.count) in
-    s.so_far ∙ ap (λ (k : ℕ). bytes_of (take k words) ++ drop (k * 4) bytes) e
+-- the bytes of the first i words are stored, and now those of one more
+pub one_more_stored :
+    (words bytes later : List ℕ) (i : ℕ) {k : ℕ} {put : List ℕ} → later ≡ bytes_of (take i words) ++ drop (i * 4) bytes → i < length words
+    → i * 4 + 4 ≤ length bytes → length later ≡ length bytes → k ≡ 4 → put ≡ to_le_bytes w32 (get_or words i 0)
+    → put_mid (i * 4) k later put ≡ bytes_of (take (i + 1) words) ++ drop ((i + 1) * 4) bytes
+one_more_stored words bytes later i {k} {put} so_far read place same_length four e =
+    let w = get_or words i 0 in
+    let bytes-put : put ≡ word_bytes w = e ∙ word_bytes_are w in
+    let before = bytes_of (take i words) in
+    let size : length before ≡ i * 4 = bytes_length (take i words) ∙ ap (λ (k : ℕ). k * 4) (length-take-le i words (omega arith)) in
+    let first_part : take (i * 4) later ≡ before = ap (take (i * 4)) so_far ∙ take_at before (drop (i * 4) bytes) (i * 4) size in
+    let next : (i + 1) * 4 ≡ i * 4 + 4 = omega arith in
+    let last-part : drop ((i + 1) * 4) later ≡ drop ((i + 1) * 4) bytes =
+    ap (λ (k : ℕ). drop k later) next
+    ∙ sym (drop-drop 4 (i * 4) later)
+    ∙ ap (drop 4) (ap (drop (i * 4)) so_far ∙ drop_at before (drop (i * 4) bytes) (i * 4) size)
+    ∙ drop-drop 4 (i * 4) bytes
+    ∙ ap (λ (k : ℕ). drop k bytes) (sym next) in
+    let length-put : length put ≡ 4 = ap length bytes-put in
+    sym (take-append-drop ((i + 1) * 4) (put_mid (i * 4) k later put))
+    ∙ ap₂ (λ (a b : List ℕ). a ++ b)
+    (take-put_mid (i * 4) k later put ((i + 1) * 4) (omega arith) (omega arith)
+    ∙ ap₂ (λ (a b : List ℕ). a ++ b) first_part bytes-put
+    ∙ sym (bytes_snoc (take i words) w)
+    ∙ ap bytes_of (sym (take-suc words i 0 read) ∙ ap (λ (k : ℕ). take k words) (sym (add-one i))))
+    (drop-put_mid (i * 4) k later put ((i + 1) * 4) (omega arith) (omega arith) (omega arith) ∙ last-part)
 
 -- a byte below the others
 low_byte : (a k : ℕ) → a < 256 → (a + k * 256) % 256 ≡ a

@@ -1,7 +1,6 @@
 -- A card and a pack, one behind the other or each in a file, and what is answered to them: document 01, "What the judge reads", with the
 -- numbers 1 and 2 of "Numbers and what they mean". Every other number is the judge's.
 use Rattle.std.specs.Prelude.{ℕ, suc, ◌*◌, ◌≡◌, Bool, cond, Option, Some, None, Ok, Err, List, [], eqb, length, drop}
-use Rattle.std.proofs.Math.Option.{some}
 use Rattle.units.specs.Units.{slots}
 use Rattle.units.specs.declared.Quadwords.{Quadwords}
 use Rattle.checks.specs.declared.Place.TheVariants as place
@@ -76,7 +75,7 @@ judged_of_files text pack = beside_card text pack (card_of text)
 -- a card's file that has all its lines, right or wrong, each ended by its line feed, and nothing behind them
 pub record AllLines (text : List ℕ) : Type 0 where
   pub last : List ℕ
-  pub is_there : line_of card_lines text ≡ some last
+  pub is_there : line_of card_lines text ≡ Some last
   pub none_behind : behind card_lines text ≡ []
 
 -- ---- the report

@@ -158,7 +158,7 @@ bad_modes_lem lo {m = m} e f =
 
 -- ---- one instruction, test by test
 
--- what the code has asked so far
+-- what the code asks
 module _ (starts widths : List ℕ) (lo hi : ℕ) where
   abbrev field_test : Bool
   field_test = bad_modes lo || ltb 5 (BANK_SWIZZLE of hi)
@@ -168,24 +168,6 @@ module _ (starts widths : List ℕ) (lo hi : ℕ) where
 
   abbrev third_test : Bool
   third_test = in_gap starts widths (with_rel SRC2_SEL SRC2_REL (third_word lo hi))
-
-  pub by_field : field_test ≡ true → true ≡ broken_by starts widths lo hi
-  unfolding broken_by
-  by_field a = rw a
-
-  module _ (a : field_test ≡ false) where
-    pub by-source : source_test ≡ true → true ≡ broken_by starts widths lo hi
-    unfolding broken_by
-    by-source b = rw (a, b)
-
-    module _ (b : source_test ≡ false) where
-      pub by_third : third_test ≡ true → true ≡ broken_by starts widths lo hi
-      unfolding broken_by
-      by_third d = rw (a, b, d)
-
-      pub by-destination : {n : Bool} → third_test ≡ false → n ≡ writes_gap starts widths hi → n ≡ broken_by starts widths lo hi
-      unfolding broken_by
-      by-destination d f = f ∙ rw (a, b, d)
 
 -- ---- rows
 
