@@ -7,7 +7,7 @@
 
 ghost use Rattle.std.specs.Prelude.{◌≤◌, ◌<◌, IfOk, length};
 
-use card::{Build, Card, CardRead, CardTest, Kind};
+use card::{BadLine, Card};
 use std::io;
 use std::io::Read;
 
@@ -19,19 +19,8 @@ fn put_figure(out: &impl Print, n: u64) -> io::Result<()> {
     print!(out; " {n}")
 }
 
-fn put_words(out: &impl Print, kind: Kind, build: Build) -> io::Result<()> {
-    match kind {
-        Kind::Pixel => out.print(" ps")?,
-        Kind::Vertex => out.print(" vs")?,
-        Kind::Geometry => out.print(" gs")?,
-    }
-    match build {
-        Build::Production => out.print(" production"),
-        Build::Debug => out.print(" debug"),
-    }
-}
-
-fn put_figures(out: &impl Print, card: Card) -> io::Result<()> {
+fn put_card(out: &impl Print, card: Card) -> io::Result<()> {
+    print!(out; " {} {}", card.kind, card.build)?;
     put_figure(out, card.gprs as u64)?;
     put_figure(out, card.temps as u64)?;
     put_figure(out, card.consts as u64)?;
@@ -42,8 +31,8 @@ fn put_figures(out: &impl Print, card: Card) -> io::Result<()> {
 // What a card that was read is as a card that a caller makes.
 fn put_test(out: &impl Print, card: Card) -> io::Result<()> {
     match card::check_card(card) {
-        CardTest::InRange => out.print(", in range"),
-        CardTest::BadLine(n) => {
+        Ok(()) => out.print(", in range"),
+        Err(BadLine(n)) => {
             out.print(", out of range: line")?;
             put_figure(out, n as u64)
         }
@@ -52,15 +41,14 @@ fn put_test(out: &impl Print, card: Card) -> io::Result<()> {
 
 fn put_answer(out: &impl Print, input: &[u8]) -> io::Result<()> {
     match card::read_card(input) {
-        CardRead::Whole(card, taken) => {
+        Ok((card, taken)) => {
             out.print("whole, bytes")?;
             put_figure(out, taken as u64)?;
             out.print(":")?;
-            put_words(out, card.kind, card.build)?;
-            put_figures(out, card)?;
+            put_card(out, card)?;
             put_test(out, card)?;
         }
-        CardRead::BadLine(n) => {
+        Err(BadLine(n)) => {
             out.print("line")?;
             put_figure(out, n as u64)?;
         }
@@ -86,31 +74,29 @@ fn length_in(header: &[u8]) -> usize
     high + digit(header, 2) * 100 + digit(header, 3) * 10 + digit(header, 4)
 }
 
-// Runs the case at a place of `all`, and answers where the next one starts.
-fn run_case(out: &impl Print, all: &[u8], at: usize) -> io::Result<usize>
-    requires { at < length all.now }
-    ensures { IfOk result (λ next. (at < next) × (next ≤ length all.now)) }
+// Runs the case that `cases` begin with, and answers what stands behind it.
+fn run_case<'a>(out: &impl Print, cases: &'a [u8]) -> io::Result<&'a [u8]>
+    requires { 0 < length cases.now }
+    ensures { IfOk result (λ rest. length rest.now < length cases.now) }
 {
-    if all.len() - at < HEADER {
-        return Ok(all.len());
+    if cases.len() < HEADER {
+        return Ok(&[]);
     }
-    let start = at + HEADER;
-    let n = length_in(&all[at..start]);
-    if all.len() - start <= n {
-        return Ok(all.len());
+    let (header, rest) = cases.split_at(HEADER);
+    let n = length_in(header);
+    if rest.len() <= n {
+        return Ok(&[]);
     }
-    let end = start + n;
-    let label = at + 6;
-    let label_end = label + LABEL;
-    out.write_all(&all[label..label_end])?;
-    put_answer(out, &all[start..end])?;
-    Ok(end + 1)
+    let (input, rest) = rest.split_at(n);
+    out.write_all(&header[6..6 + LABEL])?;
+    put_answer(out, input)?;
+    Ok(&rest[1..])
 }
 
-fn run(out: &impl Print, all: &[u8]) -> io::Result<()> {
-    let mut at = 0;
-    while at < all.len() {
-        at = run_case(out, all, at)?;
+fn run(out: &impl Print, cases: &[u8]) -> io::Result<()> {
+    let mut rest = cases;
+    while !rest.is_empty() {
+        rest = run_case(out, rest)?;
     }
     Ok(())
 }
