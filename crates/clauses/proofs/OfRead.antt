@@ -1,5 +1,5 @@
 -- One group, read instruction by instruction: its size, and where it lies. Assumes nothing.
-use Rattle.std.proofs.Common.{◌≡◌, ℕ, zero, suc, ◌+◌, ◌-◌, ◌*◌, ◌^◌, ◌/◌, ◌<◌, ◌≤◌, Bool, true, false, cond, ◌||◌, eqb, ltb, min, List, length, get_or, Option, Some, None, sym, refl, ap, ◌∙◌, add-one, arith, ltb-false, ltb-true, le-ltb, lt-ltb, leb-true, le-leb, eq-eqb, ne_eqb}
+use Rattle.std.proofs.Common.{◌≡◌, ℕ, zero, suc, ◌+◌, ◌-◌, ◌*◌, ◌/◌, ◌<◌, ◌≤◌, Bool, true, false, cond, ◌||◌, eqb, ltb, min, List, length, get_or, Some, None, sym, refl, ap, ◌∙◌, add-one, arith, ltb-false, ltb-true, le-ltb, lt-ltb, leb-true, le-leb, eq-eqb, ne_eqb}
 use mathlib.Core.Bool.{or-true, false≢true}
 use Rattle.units.specs.declared.Quadwords.{Quadwords}
 use Rattle.units.specs.declared.Slots.{Slots}
@@ -9,7 +9,6 @@ use Rattle.grants.specs.declared.Limits.{Limits}
 use Rattle.groups.specs.declared.Seen.{Seen}
 use Rattle.groups.specs.Code.{none_seen, next_seen, seen_of}
 use Rattle.groups.proofs.OfGroup.{seen_none, seen_next}
-use Rattle.clauses.specs.declared.Group.{Group}
 use Rattle.clauses.specs.Clause.{low_of, high_of, is_last, size_from, size_of, span_of, bad_shape}
 use Rattle.clauses.specs.CodeRead.{group_of}
 

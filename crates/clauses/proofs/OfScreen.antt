@@ -1,6 +1,6 @@
 -- A clause at a glance: what is kept of a group is all that has been seen of it, as long as nothing is broken; and where every group passes the
 -- clause is accepted. Assumes nothing.
-use Rattle.std.proofs.Common.{◌≡◌, ℕ, zero, suc, ◌+◌, ◌-◌, ◌*◌, ◌/◌, ◌%◌, ◌^◌, ◌<◌, ◌≤◌, Bool, true, false, cond, not, ◌&&◌, ◌||◌, eqb, ltb, List, length, get_or, sym, refl, ap, ◌∙◌, subst, mod-eq_of_lt, add-one, arith, ltb-false, ltb-true, le-ltb, lt-ltb, eq-eqb, ne_eqb, eqb-true, le-leb, leb-true}
+use Rattle.std.proofs.Common.{◌≡◌, ℕ, zero, suc, ◌+◌, ◌-◌, ◌*◌, ◌/◌, ◌%◌, ◌^◌, ◌<◌, ◌≤◌, Bool, true, false, cond, not, ◌&&◌, ◌||◌, eqb, ltb, List, length, get_or, sym, refl, ap, ◌∙◌, subst, mod-eq_of_lt, add-one, arith, ltb-false, ltb-true, eq-eqb, ne_eqb, eqb-true, le-leb}
 use borrow.Author.Tests.{eqb-false, lt-leb}
 use mathlib.Core.Path.{transport}
 use mathlib.Core.Bool.{false≢true}
@@ -8,7 +8,7 @@ use lib.Bits.{bit_and, and_zero_r, and_mask}
 use Rattle.laws.proofs.OfTests.{neither, by_test_lem}
 use Rattle.units.specs.declared.Quadwords.{Quadwords}
 use Rattle.units.specs.declared.Slots.{Slots}
-use Rattle.units.specs.Units.{quadwords, slots, words, slot_quadword, slot_behind, slots_left, slots_length, lies_in, low_at, high_at}
+use Rattle.units.specs.Units.{quadwords, slots, slot_quadword, slot_behind, slots_left, low_at, high_at}
 use Rattle.units.specs.Code.{quadwords_in_64}
 use Rattle.units.proofs.OfUnits.{capped_exact}
 use Rattle.formats.specs.Fields.{◌of◌, BANK_SWIZZLE, «CLAMP», DST_CHAN, «LAST», «OMOD», OP2_INST}

@@ -1,6 +1,6 @@
 -- The words of one group, as a slice of the buffer: what is asked of them there is what is asked of the group; and what `any` over their
 -- pairs says. Assumes nothing.
-use Rattle.std.proofs.Common.{◌≡◌, ℕ, zero, suc, ◌+◌, ◌-◌, ◌*◌, ◌/◌, ◌%◌, ◌<◌, ◌≤◌, Bool, true, false, ◌&&◌, ◌||◌, eqb, leb, List, length, get_or, take, drop, Option, Some, None, option_map, is_some, IfSome, IsSomeAnd, IsTrue, MatchBool, sym, refl, ap, ◌∙◌, arith, leb-true, length-drop}
+use Rattle.std.proofs.Common.{◌≡◌, ℕ, zero, suc, ◌+◌, ◌*◌, ◌/◌, ◌%◌, ◌<◌, ◌≤◌, Bool, true, false, ◌&&◌, ◌||◌, eqb, leb, List, length, get_or, take, drop, Option, Some, None, option_map, is_some, IfSome, IsSomeAnd, IsTrue, MatchBool, sym, refl, ap, ◌∙◌, arith, leb-true, length-drop}
 use Rattle.std.proofs.lemmas.List.{get_or-take, get_or-drop, length-take}
 use Rattle.std.specs.Iterator.Runs.{Run, IsChunksExactRun, CallKeepsClosure, AnyItemGives, AllItemsGive}
 use denote.Param.Members.{Mut, Called}

@@ -6,7 +6,7 @@ use Rattle.std.proofs.lemmas.Bool.Decides.{nat_tests}
 use Rattle.std.specs.Ordering.{is_le, nat_cmp}
 use Rattle.units.specs.declared.Quadwords.{Quadwords}
 use Rattle.units.specs.declared.Slots.{Slots}
-use Rattle.units.specs.Units.{slots, slot_quadword, slot_behind, slots_left, is_slot_below}
+use Rattle.units.specs.Units.{slots, slot_quadword, slot_behind, slots_left}
 use Rattle.units.specs.Code.{slots_in_64}
 use Rattle.units.proofs.OfUnits.{capped_exact}
 use Rattle.checks.specs.declared.Place.TheVariants.{Quadword}

@@ -197,7 +197,9 @@ fn size_in(issued: u32) -> u32
 fn has_relative(group: &[u32]) -> bool
     ensures { result ≡ any_below (λ j. has_relative (low_at group.now j) (high_at group.now j)) (length group.now / 2) }
 {
-    group.chunks_exact(2).any(|pair| instructions::has_relative(pair[0], pair[1]))
+    group
+        .chunks_exact(2)
+        .any(|pair| instructions::has_relative(pair[0], pair[1]))
 }
 
 // Whether the first four are in the four vector units and alike.

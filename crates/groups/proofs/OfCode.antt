@@ -1,10 +1,9 @@
 -- What the code keeps of a group, step by step. Assumes nothing.
-use mathlib.Core.Path.{◌≡◌, refl, sym, ap, ◌∙◌}
-use mathlib.Core.Bool.{Bool, true, false, not}
+use mathlib.Core.Path.{◌≡◌, refl, ap, ◌∙◌}
+use mathlib.Core.Bool.{Bool, false, not}
 use Prim.Native.Nat.{ℕ, ◌%◌, max}
-use Rattle.std.specs.Prelude.{Option, Some, None}
+use Rattle.std.specs.Prelude.{Option, None}
 use Rattle.units.specs.declared.Slots.{Slots}
-use Rattle.units.specs.Units.{slots}
 use Rattle.formats.specs.Fields.{◌of◌, BANK_SWIZZLE, DST_CHAN}
 use Rattle.opcodes.specs.declared.alu.Class.{Class}
 use Rattle.opcodes.specs.declared.alu.Unit.{Unit}
@@ -17,7 +16,7 @@ use Rattle.grants.specs.Grants.{all_granted}
 use Rattle.instructions.specs.Instruction.{class_of, bad_number, bad_field, has_relative, literals, named}
 use Rattle.groups.specs.declared.Issues.{Issues}
 use Rattle.groups.specs.declared.Seen.{Seen}
-use Rattle.groups.specs.Code.{Taken, unit_for, unit_by, unit_of, bad_unit, occupied, is_uneven, or_here, next_issues, bad_issues, next_seen, Clean, Broken, first_fault, fault_of}
+use Rattle.groups.specs.Code.{Taken, unit_for, unit_by, unit_of, bad_unit, occupied, is_uneven, or_here, next_issues, bad_issues, next_seen, Clean, first_fault, fault_of}
 
 -- a class by its number in the code is the class
 pub unit_by_tag : (t : Taken) (k : Unit) (chan : ℕ) → unit_by t (tag_of the_type k % 4) chan ≡ unit_for t k chan

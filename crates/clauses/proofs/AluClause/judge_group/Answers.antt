@@ -1,5 +1,5 @@
 -- `clauses::AluClause::judge_group` meets its contract. Assumes nothing.
-use Rattle.std.proofs.Common.{◌≡◌, ◌^◌, ◌<◌, ◌≤◌, Some, sym, ap, ◌∙◌, arith, rules}
+use Rattle.std.proofs.Common.{◌≡◌, ◌^◌, ◌<◌, ◌≤◌, Some, ap, ◌∙◌, arith, rules}
 use Rattle.std.specs.Ordering.{is_le, nat_cmp}
 use Rattle.units.specs.declared.Slots.{Slots}
 use Rattle.units.specs.Units.{slot_quadword, slots_left}

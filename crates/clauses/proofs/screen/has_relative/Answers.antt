@@ -1,5 +1,5 @@
 -- `clauses::screen::has_relative` meets its contract. Assumes nothing.
-use Rattle.std.proofs.Common.{rules, tests, ap, ◌∙◌, arith}
+use Rattle.std.proofs.Common.{rules, ap, ◌∙◌, arith}
 use Rattle.std.specs.Slice.Iter.{chunks_exact_size, chunks_exact_rest}
 use Rattle.instructions.specs.Instruction.{has_relative}
 use Rattle.clauses.proofs.OfSlice.{any_pair}
