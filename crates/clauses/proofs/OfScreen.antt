@@ -1,6 +1,6 @@
 -- A clause at a glance: what is kept of a group is all that has been seen of it, as long as nothing is broken; and where every group passes the
 -- clause is accepted. Assumes nothing.
-use Rattle.std.proofs.Common.{◌≡◌, ℕ, zero, suc, ◌+◌, ◌-◌, ◌*◌, ◌/◌, ◌%◌, ◌^◌, ◌<◌, ◌≤◌, Bool, true, false, cond, not, ◌&&◌, ◌||◌, eqb, ltb, List, length, get_or, sym, refl, ap, ◌∙◌, subst, mod-eq_of_lt, add-one, arith, ltb-false, ltb-true, eq-eqb, ne_eqb, eqb-true, le-leb}
+use Rattle.std.proofs.Common.{◌≡◌, ℕ, zero, suc, ◌+◌, ◌-◌, ◌*◌, ◌/◌, ◌%◌, ◌^◌, ◌<◌, ◌≤◌, Bool, true, false, cond, not, ◌&&◌, ◌||◌, eqb, ltb, List, length, get_or, sym, refl, ap, ◌∙◌, subst, mod-eq_of_lt, add-one, arith, ltb-false, ltb-true, eq-eqb, ne_eqb, eqb-true, le-leb, le-ltb, lt-ltb}
 use borrow.Author.Tests.{eqb-false, lt-leb}
 use mathlib.Core.Path.{transport}
 use mathlib.Core.Bool.{false≢true}
@@ -290,6 +290,13 @@ module _ (w : List ℕ) (at n t : ℕ) (e : Ends w at n) where
             ∙ sym q
             ∙ z.1;
       }
+
+-- a question that is asked where there are some, and not where there are none
+pub asked : (n : ℕ) {b d : Bool} → 0 < n → b ≡ d → b ≡ (ltb 0 n && d)
+asked n l e = e ∙ rw (lt-ltb 0 n l)
+
+pub unasked : (n : ℕ) {b : Bool} (d : Bool) → n ≤ 0 → b ≡ ltb 0 n → b ≡ (ltb 0 n && d)
+unasked n d l e = e ∙ rw (le-ltb 0 n l) refl
 
 -- all of it, and nothing
 kept_all : (t : Tally) → t ≡ kept_of 1 t

@@ -56,13 +56,13 @@ impl AluClause<'_> {
             if is_wrong(&starts, &widths, seen.taken, code, unit, low, high) {
                 return false;
             }
-            let more = with_one(seen, code, unit, literals);
+            let more = seen.with_one(code, unit, literals);
             let issued = only_if(last, more.issued);
-            if breaks_14(words, at, more, issued, pixel & (next == end)) {
+            if more.breaks_14(words, at, issued, pixel & (next == end)) {
                 return false;
             }
             setters += (issued / 16 % 16) as usize;
-            seen = kept(1 - last, more);
+            seen = more.kept(1 - last);
             at = next;
         }
         (at == end) & ((seen.issued == 0) & (!self.push_before | (setters == 1)))
@@ -104,16 +104,62 @@ fn is_wrong(
     (code % 4 == 0) | alu_units::is_bad_unit(taken, unit, read(high, fields::BANK_SWIZZLE))
 }
 
-// What is kept, with one instruction more, in that unit; with it the group has so many literal quadwords.
-#[tactic(auto, using(crate::proofs::OfScreen::weight_few))]
-fn with_one(seen: Tally, code: u32, unit: u32, literals: u32) -> Tally
-    requires { seen.issued < 2 ^ 31 }
-    ensures { result ≡ with_one seen code unit literals }
-{
-    Tally {
-        taken: alu_units::occupy(seen.taken, unit),
-        issued: seen.issued + weight(code),
-        literals,
+impl Tally {
+    // What is kept, with one instruction more, in that unit; with it the group has so many literal quadwords.
+    #[tactic(auto, using(crate::proofs::OfScreen::weight_few))]
+    fn with_one(self, code: u32, unit: u32, literals: u32) -> Tally
+        requires { self.issued < 2 ^ 31 }
+        ensures { result ≡ with_one self code unit literals }
+    {
+        Tally {
+            taken: alu_units::occupy(self.taken, unit),
+            issued: self.issued + weight(code),
+            literals,
+        }
+    }
+
+    // What is kept of it where the group goes on, and nothing where it has ended.
+    fn kept(self, stays: u32) -> Tally
+        requires { stays < 2 }
+        ensures { result ≡ kept_of stays self }
+    {
+        Tally {
+            taken: only_if(stays, self.taken),
+            issued: only_if(stays, self.issued),
+            literals: only_if(stays, self.literals),
+        }
+    }
+
+    // Rule 14 where the group ends, which `issued` says: plain instructions and one setter break nothing, and most groups have nothing else.
+    fn breaks_14(self, words: &[u32], at: usize, issued: u32, may_kill: bool) -> bool
+        requires { Ends words.now at self.issued }
+        ensures { result ≡ false → 31 < issued → Issued (low_of words.now (first_of at self.issued)) (high_of words.now (first_of at self.issued)) (size_in self.issued) self.taken may_kill }
+    {
+        if issued < 32 {
+            return false;
+        }
+        self.breaks_counted(words, at, may_kill)
+    }
+
+    // The same by what is counted in the group whose last slot is quadword `at`; `may_kill` where kills may stand.
+    fn breaks_counted(self, words: &[u32], at: usize, may_kill: bool) -> bool
+        requires { Ends words.now at self.issued }
+        ensures { result ≡ false → Issued (low_of words.now (first_of at self.issued)) (high_of words.now (first_of at self.issued)) (size_in self.issued) self.taken may_kill }
+    {
+        let issued = self.issued;
+        let kills = issued / 256 % 16;
+        if 1 < issued / 16 % 16 + kills {
+            return true;
+        }
+        if (0 < kills) & !may_kill {
+            return true;
+        }
+        let first = at + 1 - size_in(issued) as usize;
+        let group = &words[2 * first..2 * at + 2];
+        // No MOVA in a group with any relative bit set; a reduction fills all four vector units.
+        let wrong_mova = 0 < issued / 4096 % 16 && has_relative(group);
+        let wrong_reduction = 0 < issued / 65536 && !is_straight(group, self.taken);
+        wrong_mova | wrong_reduction
     }
 }
 
@@ -123,67 +169,6 @@ fn weight(code: u32) -> u32
     ensures { result ≡ 16 ^ (code / 4 % 8) }
 {
     1 << (code / 4 % 8 * 4)
-}
-
-// What is kept of it where the group goes on, and nothing where it has ended.
-fn kept(stays: u32, seen: Tally) -> Tally
-    requires { stays < 2 }
-    ensures { result ≡ kept_of stays seen }
-{
-    Tally {
-        taken: only_if(stays, seen.taken),
-        issued: only_if(stays, seen.issued),
-        literals: only_if(stays, seen.literals),
-    }
-}
-
-// Rule 14 where the group ends, which `issued` says: plain instructions and one setter break nothing, and most groups have nothing else.
-fn breaks_14(words: &[u32], at: usize, seen: Tally, issued: u32, may_kill: bool) -> bool
-    requires { Ends words.now at seen.issued }
-    ensures { result ≡ false → 31 < issued → Issued (low_of words.now (first_of at seen.issued)) (high_of words.now (first_of at seen.issued)) (size_in seen.issued) seen.taken may_kill }
-{
-    if issued < 32 {
-        return false;
-    }
-    breaks_counted(words, at, seen, may_kill)
-}
-
-// The same by what is counted in the group whose last slot is quadword `at`; `may_kill` where kills may stand.
-fn breaks_counted(words: &[u32], at: usize, seen: Tally, may_kill: bool) -> bool
-    requires { Ends words.now at seen.issued }
-    ensures { result ≡ false → Issued (low_of words.now (first_of at seen.issued)) (high_of words.now (first_of at seen.issued)) (size_in seen.issued) seen.taken may_kill }
-{
-    let issued = seen.issued;
-    let kills = issued / 256 % 16;
-    if 1 < issued / 16 % 16 + kills {
-        return true;
-    }
-    if (0 < kills) & !may_kill {
-        return true;
-    }
-    let first = at + 1 - size_in(issued) as usize;
-    let group = &words[2 * first..2 * at + 2];
-    breaks_mova(group, issued) | breaks_reduction(group, seen)
-}
-
-// No MOVA in a group with any relative bit set; the words are the group's, here and in what follows.
-fn breaks_mova(group: &[u32], issued: u32) -> bool
-    ensures { result ≡ (nat_lt 0 (issued / 4096 % 16) && any_below (λ j. has_relative (low_at group.now j) (high_at group.now j)) (length group.now / 2)) }
-{
-    if issued / 4096 % 16 == 0 {
-        return false;
-    }
-    has_relative(group)
-}
-
-// A reduction fills all four vector units.
-fn breaks_reduction(group: &[u32], seen: Tally) -> bool
-    ensures { result ≡ (nat_lt 0 (seen.issued / 65536) && not (is_straight (high_at group.now) (length group.now / 2) seen.taken)) }
-{
-    if seen.issued / 65536 == 0 {
-        return false;
-    }
-    !is_straight(group, seen.taken)
 }
 
 // The instructions of a group.
