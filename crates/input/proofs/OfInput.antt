@@ -79,7 +79,7 @@ as_judged card pack h = by_test_lem (test_of card) refl h
 
     by_test_lem : (known : CardTest) → test_of card ≡ known → (by_test card pack known ≡ bad_length → ⊥)
         → by_test card pack known ≡ judgement card (words_in pack)
-    by_test_lem (Err bad) e h = (of-judge.bad_card card (words_in pack) refl e refl).0
+    by_test_lem (Err bad) e h = sym (of-judge.line_refused card (words_in pack) bad e)
     by_test_lem InRange e h = by_right (right_length card.quads (length pack)) h
 
 -- ---- the card and the pack

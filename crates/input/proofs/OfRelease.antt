@@ -45,7 +45,7 @@ accepted_pack card pack r h = by (right_length card.quads (length pack)) refl (s
     by false e h = absurd (never_accepted h)
 
 -- a card and a pack that are answered so are released
-by_card : (card : Card) (pack : List ℕ) → test_of card ≡ InRange → pack_verdict card pack ≡ Accepted → card.build ≡ Production
+by_card : (card : Card) (pack : List ℕ) → test_of card ≡ InRange → pack_verdict card pack ≡ Accepted → ◌≡◌ {A = Option Build} (Some card.build) (Some Production)
     → (text : List ℕ) → text ≡ written card → Released text pack
 by_card card pack r v b text e =
     let w = accepted_pack card pack r v in
@@ -53,7 +53,7 @@ by_card card pack r v b text e =
       card = card;
       is_card = e;
       in_range = range_figures card r;
-      production = b;
+      production = cc;
       length_is_right = w.0;
       accepted = w.1;
     }

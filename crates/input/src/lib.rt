@@ -88,8 +88,10 @@ pub fn report_files(text: &[u8], pack: &[u8], out: &mut [u8]) -> Result<usize, T
 pub fn verdict_on(card: Card, pack: &[u8]) -> Verdict
     ensures { result ≡ pack_verdict card pack.now }
 {
-    card::check_card(card).map_err(bad_line)?;
-    verdict_in_range(card, pack)
+    match card::check_card(card) {
+        Ok(()) => verdict_in_range(card, pack),
+        Err(line) => Err(bad_line(line)),
+    }
 }
 
 // The same by a card whose figures are in range, as those of a card that was read are.
@@ -150,7 +152,8 @@ fn judge_words(card: Card, pack: &[u8]) -> Verdict
 
 // In room for so many words.
 fn judge_in<const ROOM: usize>(card: Card, pack: &[u8]) -> Verdict
-    requires { length pack.now / 4 ≤ ROOM }
+    requires few { length pack.now / 4 ≤ ROOM }
+    requires room { ROOM ≤ 16384 }
     ensures { result ≡ judgement card (words_in pack.now) }
 {
     let mut room = [0u32; ROOM];

@@ -11,7 +11,7 @@ pub fn load(bytes: &[u8], words: &mut [u32]) -> usize
     ensures value { result ≡ min (length bytes.now / 4) (length words.old) }
     ensures words_after { words.new ≡ take result (words_in bytes.now) ++ drop result words.old }
 {
-    let n = words.len().min(bytes.len() / 4);
+    let n = (bytes.len() / 4).min(words.len());
     for i in 0..n {
         words[i] = word_at(bytes, i * 4);
     }
@@ -24,7 +24,8 @@ pub fn store(words: &[u32], bytes: &mut [u8])
 {
     let n = words.len().min(bytes.len() / 4);
     for i in 0..n {
-        bytes[i * 4..i * 4 + 4].copy_from_slice(&words[i].to_le_bytes());
+        let word = words[i];
+        bytes[i * 4..i * 4 + 4].copy_from_slice(&word.to_le_bytes());
     }
 }
 
