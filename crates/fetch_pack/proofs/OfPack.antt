@@ -2,30 +2,71 @@
 use mathlib.Core.Path.{◌≡◌, refl, sym, ap, ◌∙◌, subst}
 use mathlib.Core.Bool.{true, ◌&&◌}
 use mathlib.Core.List.{List, [], ◌∷◌, ◌++◌, append-nil, append_assoc}
-use Rattle.std.specs.Prelude.{Option, Some, None, Result, Ok, Err, IsErr, ⊤}
+use Rattle.std.specs.Prelude.{Option, Some, None, Result, Ok, Err, IsErrAnd, ⊤}
 use Prim.Native.Nat.{ℕ, zero, suc, ◌+◌, ◌*◌, ◌/◌, ◌%◌, ◌^◌, ◌≤◌, ◌<◌, min}
 use native.Mathlib.Nat.{min-eq_left}
 use native.Mathlib.Omega.{arith}
 use lib.ListN.{length, get_or, take, drop, length-append, drop_of_length-le}
 use lib.Seq.{take_all, take_at, drop_at, length-take-le, sets, sets-eq, length-sets}
-use lib.Dec.{leb}
-use borrow.Author.Tests.{le-leb, lt-leb, leb-true, eq-eqb, ne_eqb}
+use lib.Dec.{leb, eqb}
+use borrow.Author.Tests.{le-leb, leb-true, eq-eqb, eqb-true}
 use Rattle.laws.proofs.OfTests.{both, by_test_lem}
 use Rattle.units.specs.declared.Words.{Words}
 use Rattle.card.specs.Card.{quads_allowed}
 use Rattle.fetch_codec.specs.declared.Clause.{Clause}
 use Rattle.fetch_codec.specs.declared.Fetch.{Fetch}
 use Rattle.fetch_codec.specs.Fetch.{encodable, word0_of, word1_of, word2_of}
-use Rattle.microcode.specs.Buffer.{room, write_words}
+use Rattle.microcode.specs.Buffer.{room}
+use Rattle.microcode.proofs.OfCodec.{length-over}
 use Rattle.fetch_codec.specs.Buffer.{Decoded, decode_of, encode_words}
 use Rattle.fetch_text.specs.declared.EditError.{EditError}
+use Rattle.fetch_text.specs.declared.ShowError.{ShowError}
+use Rattle.fetch_text.specs.Text.{shown_of, shown_after}
 use Rattle.fetch_text.specs.Edit.{lines_in, first_fault, words_with, unless, edit_of, edited_words, edited, Promised}
 use Rattle.input.specs.Words.{words_in, bytes_of, stored_in}
 use Rattle.input.proofs.OfWords.{words_length, words_back, bytes_back, bytes_take, bytes_drop}
 use Rattle.laws.proofs.OfCases.{impossible}
 use Rattle.fetch_pack.specs.declared.PackError.{PackError}
-use Rattle.fetch_pack.specs.declared.PackError.TheVariants.{TooLong, NotWhole, Fetch}
-use Rattle.fetch_pack.specs.Pack.{on_words, bytes_after, OthersStay, PackPromised}
+use Rattle.fetch_pack.specs.declared.PackError.TheVariants.{TooLong, NotWhole}
+use Rattle.fetch_pack.specs.declared.PackError.TheVariants as pack_error
+use Rattle.fetch_pack.specs.Pack.{of_pack, length_test, on_words, pack_shown, pack_shown_after, pack_edit, pack_after, bytes_after, OthersStay, PackPromised}
+
+-- ---- by the pack's length
+
+-- a pack that is taken
+pub record IsPack (pack : List ℕ) : Type 0 where
+  pub short : length pack ≤ 65536
+  pub whole : length pack % 8 ≡ 0
+
+pub is_pack : {E : Type 0} (pack : List ℕ) {r : Result ⊤ (PackError E)} {t : ⊤} → r ≡ Ok t → r ≡ length_test pack → IsPack pack
+is_pack {E} pack {r} {t} is e =
+    by_test_lem (leb (length pack) (8192 * 8))
+    (λ short. by_test_lem (eqb (length pack % 8) 0)
+    (λ whole. record { short = leb-true (length pack) 65536 short; whole = eqb-true (length pack % 8) 0 whole })
+    (λ part. let z : Ok t ≡ Err NotWhole = rw (short, part) at (sym is ∙ e) in impossible cc))
+    (λ long. let z : Ok t ≡ Err TooLong = rw long at (sym is ∙ e) in impossible cc)
+
+on_pack : {A : Type 0} {pack : List ℕ} → IsPack pack → (x y z : A) → of_pack pack x y z ≡ z
+on_pack {A} {pack} p x y z = rw (le-leb (length pack) 65536 p.short, eq-eqb (length pack % 8) 0 p.whole)
+
+-- an answer that hands an error on is that error
+pub is_err : {A E : Type 0} (r : Result A E) {e : E} → IsErrAnd r (λ x. x ≡ e) → r ≡ Err e
+is_err (Ok t) h = absurd h
+is_err {E = E} (Err x) h = ap (λ (y : E). Err y) h
+
+-- what is shown of the pack is shown of its words
+module _ (clause : Clause) (pack : List ℕ) (start : Words) (out : List ℕ) {ws after : List ℕ} {r : Result ℕ ShowError} (p : IsPack pack) (is : ws ≡ words_in pack)
+    (told : r ≡ shown_of (decode_of clause ws start) out) (written : after ≡ shown_after (decode_of clause ws start) out) where
+  pub shown_told : on_words r ≡ pack_shown clause pack start out
+  shown_told =
+      ap (λ (x : Result ℕ ShowError). on_words x) (told ∙ ap (λ (l : List ℕ). shown_of (decode_of clause l start) out) is)
+      ∙ sym (on_pack p (Err TooLong) (Err NotWhole) (on_words (shown_of (decode_of clause (words_in pack) start) out)))
+
+  pub shown_written : after ≡ pack_shown_after clause pack start out
+  shown_written =
+      written
+      ∙ ap (λ (l : List ℕ). shown_after (decode_of clause l start) out) is
+      ∙ sym (on_pack p out out (shown_after (decode_of clause (words_in pack) start) out))
 
 -- ---- what becomes of the bytes
 
@@ -38,13 +79,38 @@ words_stay (Ok f) text ws start {e} h = by (first_fault f 0 (lines_in text)) h
     by None h = impossible cc
     by (Some x) h = refl
 
--- no edit makes them more or fewer
-encoded_length : (f : Fetch) (ws : List ℕ) (start : Words) → length (encode_words f ws start) ≡ length ws
-unfolding write_words
-encoded_length f ws start =
-    by_test_lem (encodable f && room ws start.0)
-    (λ t. rw t (length-sets ws start.0 (word0_of f ∷ word1_of f ∷ word2_of f ∷ 0 ∷ [])))
-    (λ t. rw t)
+-- no edit makes them more or fewer, nor changes any but the fetch's four
+module _ (f : Fetch) (ws : List ℕ) (start : Words) where
+  four : List ℕ
+  four = word0_of f ∷ word1_of f ∷ word2_of f ∷ 0 ∷ []
+
+  -- what holds of the words as they were, and of the four over them, holds of them then
+  encoded_by :
+      (P : List ℕ → Type 0) → P ws → (start.0 + 4 ≤ length ws → P (take start.0 ws ++ (four ++ drop (start.0 + 4) ws))) → P (encode_words f ws start)
+  unfolding four
+  encoded_by P same over =
+      by_test_lem (encodable f)
+      (λ e. by_test_lem (room 4 ws start.0) (λ t. rw (e, t) (over (leb-true (start.0 + 4) (length ws) t))) (λ t. rw (e, t) same))
+      (λ e. rw e same)
+
+  encoded_length : length (encode_words f ws start) ≡ length ws
+  unfolding four
+  encoded_length = encoded_by (λ l. length l ≡ length ws) refl (λ fits. length-over start.0 four ws fits)
+
+  encoded_earlier : take start.0 (encode_words f ws start) ≡ take start.0 ws
+  encoded_earlier =
+      encoded_by (λ l. take start.0 l ≡ take start.0 ws) refl
+      (λ fits. take_at (take start.0 ws) (four ++ drop (start.0 + 4) ws) start.0 (length-take-le start.0 ws (omega arith)))
+
+  encoded_later : drop (start.0 + 4) (encode_words f ws start) ≡ drop (start.0 + 4) ws
+  unfolding four
+  encoded_later =
+      encoded_by (λ l. drop (start.0 + 4) l ≡ drop (start.0 + 4) ws) refl
+      (λ fits.
+      let first = take start.0 ws in
+      let place : start.0 + 4 ≡ length (first ++ four) = omega (arith, length-append first four, length-take-le start.0 ws (omega arith)) in
+      ap (drop (start.0 + 4)) (sym (append_assoc first four (drop (start.0 + 4) ws)))
+      ∙ drop_at (first ++ four) (drop (start.0 + 4) ws) (start.0 + 4) (sym place))
 
 pub edited_length : (d : Decoded) (text ws : List ℕ) (start : Words) → length (edited_words d text ws start) ≡ length ws
 edited_length (Err e) text ws start = refl
@@ -53,44 +119,6 @@ edited_length (Ok f) text ws start = by (first_fault f 0 (lines_in text))
     by : (o : Option EditError) → length (words_with o (edited f (lines_in text)) ws start) ≡ length ws
     by None = encoded_length (edited f (lines_in text)) ws start
     by (Some x) = refl
-
--- nor changes any but the fetch's four
-module _ (f : Fetch) (ws : List ℕ) (start : Words) where
-  four : List ℕ
-  four = word0_of f ∷ word1_of f ∷ word2_of f ∷ 0 ∷ []
-
-  -- where they lie in the words, these are the others with the four between them
-  between : room ws start.0 ≡ true → sets ws start.0 four ≡ take start.0 ws ++ (four ++ drop (start.0 + 4) ws)
-  unfolding room four
-  between t =
-      sets-eq four ws start.0 (leb-true (start.0 + 4) (length ws) t)
-      ∙ append_assoc (take start.0 ws) four (drop (start.0 + 4) ws)
-
-  before_four : room ws start.0 ≡ true → length (take start.0 ws) ≡ start.0
-  unfolding room
-  before_four t = let fits = leb-true (start.0 + 4) (length ws) t in length-take-le start.0 ws (omega arith)
-
-  encoded_earlier : take start.0 (encode_words f ws start) ≡ take start.0 ws
-  unfolding write_words four
-  encoded_earlier =
-      by_test_lem (encodable f && room ws start.0)
-      (λ t.
-      let r = (both (encodable f) (room ws start.0) t).1 in
-      rw t (ap (take start.0) (between r) ∙ take_at (take start.0 ws) (four ++ drop (start.0 + 4) ws) start.0 (before_four r)))
-      (λ t. rw t)
-
-  encoded_later : drop (start.0 + 4) (encode_words f ws start) ≡ drop (start.0 + 4) ws
-  unfolding write_words four
-  encoded_later =
-      by_test_lem (encodable f && room ws start.0)
-      (λ t.
-      let r = (both (encodable f) (room ws start.0) t).1 in
-      let first = take start.0 ws in
-      let place : start.0 + 4 ≡ length first + 4 = ap (λ (n : ℕ). n + 4) (sym (before_four r)) in
-      rw t
-      (ap (drop (start.0 + 4)) (between r ∙ sym (append_assoc first four (drop (start.0 + 4) ws)))
-      ∙ drop_at (first ++ four) (drop (start.0 + 4) ws) (start.0 + 4) (length-append first four ∙ sym place)))
-      (λ t. rw t)
 
 module _ (d : Decoded) (text ws : List ℕ) (start : Words) where
   edited_earlier : take start.0 (edited_words d text ws start) ≡ take start.0 ws
@@ -155,6 +183,13 @@ stored_whole pack ws w e =
     ∙ (λ i. bytes_of (take_all (length ws) ws (omega arith) i) ++ drop_of_length-le pack {i = length ws * 4} (omega arith) i)
     ∙ append-nil (bytes_of ws)
 
+-- what is answered on the words is told of the pack
+told_of : (e x : Result ⊤ EditError) → on_words e ≡ on_words x → e ≡ x
+told_of (Ok s) (Ok t) h = refl
+told_of (Ok s) (Err why) h = impossible cc
+told_of (Err why) (Ok t) h = impossible cc
+told_of (Err why) (Err more) h = cc
+
 module _ (clause : Clause) (pack text : List ℕ) (start : Words) {ws after : List ℕ} {r : Result ⊤ EditError} (is : ws ≡ words_in pack)
     (told : r ≡ edit_of (decode_of clause ws start) text) (words : after ≡ edited_words (decode_of clause ws start) text ws start)
     (promised : Promised clause ws after text start r) where
@@ -165,52 +200,64 @@ module _ (clause : Clause) (pack text : List ℕ) (start : Words) {ws after : Li
   answered = told ∙ ap (λ (l : List ℕ). edit_of (decode_of clause l start) text) is
 
   -- what a pack of the right length becomes, and what is promised of it
-  pub record EditedIn (bytes : List ℕ) : Type 0 where
+  record EditedIn (bytes : List ℕ) : Type 0 where
     pub bytes_are : bytes
         ≡ bytes_after (edit_of (decode_of clause (words_in pack) start) text) pack (edited_words (decode_of clause (words_in pack) start) text (words_in pack) start)
     pub others : OthersStay pack bytes start
     pub promised_of : Promised clause (words_in pack) (words_in bytes) text start r
 
-  -- nothing was stored
-  pub edit_refused : {e : EditError} → r ≡ Err e → EditedIn pack
-  edit_refused {e} h =
-      let stay = words ∙ words_stay (decode_of clause ws start) text ws start (sym told ∙ h) in
+  -- and what is told of it
+  pub record PackEdited (bytes : List ℕ) : Type 0 where
+    pub value : on_words r ≡ pack_edit clause pack start text
+    pub bytes_after_it : bytes ≡ pack_after clause pack start text
+    pub promised_so : PackPromised clause pack bytes text start (on_words r)
+
+  told_so : {bytes : List ℕ} → IsPack pack → EditedIn bytes → PackEdited bytes
+  told_so {bytes} p e =
       record {
+        value =
+            ap (λ (x : Result ⊤ EditError). on_words x) answered
+            ∙ sym (on_pack p (Err TooLong) (Err NotWhole) (on_words (edit_of (decode_of clause (words_in pack) start) text)));
+        bytes_after_it =
+            e.bytes_are
+            ∙ sym (on_pack p pack pack
+            (bytes_after (edit_of (decode_of clause (words_in pack) start) text) pack (edited_words (decode_of clause (words_in pack) start) text (words_in pack) start)));
+        promised_so = record {
+          others = e.others;
+          words = λ x q. subst (λ (x : Result ⊤ EditError). Promised clause (words_in pack) (words_in bytes) text start x) (told_of r x q) e.promised_of;
+        };
+      }
+
+  -- nothing was stored
+  pub edit_refused : {e : EditError} → IsPack pack → r ≡ Err e → PackEdited pack
+  edit_refused {e} p h =
+      let stay = words ∙ words_stay (decode_of clause ws start) text ws start (sym told ∙ h) in
+      told_so p (record {
         bytes_are = ap (λ (x : Result ⊤ EditError). bytes_after x pack (edited_words (decode_of clause (words_in pack) start) text (words_in pack) start)) (sym h ∙ answered);
         others = all_stay pack start;
         promised_of = subst (λ (l : List ℕ). Promised clause l l text start r) is (subst (λ (l : List ℕ). Promised clause ws l text start r) stay promised);
-      }
+      })
 
   -- the words were stored
-  pub edit_stored : {bytes : List ℕ} {t : ⊤} (n : ℕ) (rest : List ℕ) → r ≡ Ok t → length pack % 4 ≡ 0 → n ≡ length pack / 4 → ((k : ℕ) → get_or (after ++ rest) k 0 < 2 ^ 32)
-      → ((k : ℕ) → get_or pack k 0 < 256) → bytes ≡ stored_in (take n (after ++ rest)) pack → EditedIn bytes
-  edit_stored {bytes} n rest q w e small pack_small b =
+  pub edit_stored : {bytes : List ℕ} {t : ⊤} (n : ℕ) (rest : List ℕ) → IsPack pack → r ≡ Ok t → n ≡ length pack / 4 → ((k : ℕ) → get_or (after ++ rest) k 0 < 2 ^ 32)
+      → ((k : ℕ) → get_or pack k 0 < 256) → bytes ≡ stored_in (take n (after ++ rest)) pack → PackEdited bytes
+  edit_stored {bytes} n rest p q e small pack_small b =
+      let w : length pack % 4 ≡ 0 = omega (arith, p.whole) in
       let first_part : take n (after ++ rest) ≡ after = take_at after rest n (as_many ∙ sym e) in
       let whole = b ∙ ap (λ (l : List ℕ). stored_in l pack) first_part ∙ stored_whole pack after w as_many in
       let back : after ≡ words_in bytes = sym (ap words_in whole ∙ words_back after (first_small after rest small)) in
       let edited_bytes = whole ∙ ap bytes_of (words ∙ ap (λ (l : List ℕ). edited_words (decode_of clause l start) text l start) is) in
-      record {
+      told_so p (record {
         bytes_are =
             edited_bytes
             ∙ ap (λ (x : Result ⊤ EditError). bytes_after x pack (edited_words (decode_of clause (words_in pack) start) text (words_in pack) start)) (sym q ∙ answered);
         others = subst (λ (b : List ℕ). OthersStay pack b start) (sym edited_bytes) (others_stay (decode_of clause (words_in pack) start) pack text start pack_small w);
         promised_of = subst (λ (l : List ℕ). Promised clause (words_in pack) l text start r) back (subst (λ (l : List ℕ). Promised clause l after text start r) is promised);
-      }
+      })
 
 -- ---- what is promised of the words
 
--- what is answered on the words is told of the pack
-told_of : (e x : Result ⊤ EditError) → on_words e ≡ on_words x → e ≡ x
-told_of (Ok s) (Ok t) h = refl
-told_of (Ok s) (Err why) h = impossible cc
-told_of (Err why) (Ok t) h = impossible cc
-told_of (Err why) (Err more) h = cc
-
 module _ (clause : Clause) (before text : List ℕ) (start : Words) where
-  pub words_promised : {after : List ℕ} (r : Result ⊤ EditError) → OthersStay before after start → Promised clause (words_in before) (words_in after) text start r → PackPromised clause before after text start (on_words r)
-  words_promised {after} r o p =
-      record { others = o; words = λ e q. subst (λ (x : Result ⊤ EditError). Promised clause (words_in before) (words_in after) text start x) (told_of r e q) p }
-
   pub not_is_long : PackPromised clause before before text start (Err TooLong)
   not_is_long = record { others = all_stay before start; words = λ e q. by e q }
     where

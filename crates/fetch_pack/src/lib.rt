@@ -3,6 +3,7 @@
 #![tactic(auto)]
 
 ghost use Rattle.std.specs.Prelude.{◌≡◌};
+ghost use Rattle.fetch_pack.specs.declared.PackError.TheVariants as pack_error;
 ghost use Rattle.fetch_pack.specs.Pack.{length_test, pack_shown, pack_shown_after, pack_edit, pack_after, PackPromised};
 
 use fetch_codec::Clause;
@@ -22,6 +23,14 @@ pub enum PackError<E> {
     Fetch(E),
 }
 
+impl<E> From<E> for PackError<E> {
+    ghost from_gives = { λ e r. r ≡ pack_error.Fetch e };
+
+    fn from(e: E) -> PackError<E> {
+        PackError::Fetch(e)
+    }
+}
+
 // Writes the fields of the fetch at word `start` to the beginning of `out`, and answers how many bytes they have; where there is none, or they
 // do not fit, `out` stays as it was.
 pub fn show_fetch(clause: Clause, pack: &[u8], start: Words, out: &mut [u8]) -> Result<usize, PackError<ShowError>>
@@ -31,7 +40,7 @@ pub fn show_fetch(clause: Clause, pack: &[u8], start: Words, out: &mut [u8]) -> 
     test_length::<ShowError>(pack)?;
     let mut room = [0u32; 16384];
     let n = input::load(pack, &mut room);
-    fetch_text::write_fetch(clause, &room[..n], start, out).map_err(PackError::Fetch)
+    Ok(fetch_text::write_fetch(clause, &room[..n], start, out)?)
 }
 
 // Puts settings into the fetch at word `start`. Where something is wrong every byte of the pack stays.
@@ -43,7 +52,7 @@ pub fn edit_fetch(clause: Clause, pack: &mut [u8], start: Words, settings: &[u8]
     test_length::<EditError>(pack)?;
     let mut room = [0u32; 16384];
     let n = input::load(pack, &mut room);
-    fetch_text::edit_fetch(clause, &mut room[..n], start, settings).map_err(PackError::Fetch)?;
+    fetch_text::edit_fetch(clause, &mut room[..n], start, settings)?;
     input::store(&room[..n], pack);
     Ok(())
 }
