@@ -1,8 +1,8 @@
 -- Decoder and encoder on rows, and for C on as many values or more, by what the code tests and calls. Assumes nothing.
 use mathlib.Core.Path.{◌≡◌, refl, sym, ap, ◌∙◌}
-use mathlib.Core.Bool.{Bool, true, ◌&&◌}
+use mathlib.Core.Bool.{true}
 use mathlib.Core.List.{List, ◌++◌}
-use Prim.Native.Nat.{ℕ, ◌≤◌, ◌<◌}
+use Prim.Native.Nat.{ℕ, ◌≤◌}
 use native.Mathlib.Omega.{arith}
 use lib.ListN.{length, take, drop, length-take}
 use borrow.Author.Tests.{le-leb, eq-eqb, ne_eqb}
@@ -21,8 +21,8 @@ use Rattle.microcode.specs.declared.Instruction.TheVariants.{CfAlu, Cf, Export, 
 use Rattle.microcode.specs.declared.Stream.{Stream}
 use Rattle.microcode.specs.Answer.{Decoded, Encoded}
 use Rattle.microcode.specs.Pair.{words_of}
-use Rattle.microcode.specs.Buffer.{decode_of, write_answer, write_words, encoded_verdict}
-use Rattle.codec_for_c.specs.Values.{values_of, written, form_of, record_of, row_length, roomy, is_record, row_verdict, row_after, stream_numbered, stream_verdict, stream_row, decoded_number, decoded_values, encoded_from, encoded_words}
+use Rattle.microcode.specs.Buffer.{decode_of, write_answer, write_words}
+use Rattle.codec_for_c.specs.Values.{values_of, written, form_of, record_of, row_length, roomy, row_verdict, row_after, stream_numbered, stream_verdict, stream_row, decoded_number, decoded_values, encoded_from, encoded_words}
 use Rattle.codec_for_c.proofs.OfValues.{elements, elements_rest}
 
 pub roomy_yes : (vs : List ℕ) → row_length ≤ length vs → roomy vs ≡ true

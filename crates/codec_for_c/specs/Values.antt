@@ -1,6 +1,6 @@
 -- The codec with rows of values: an instruction as a row of values of 32 bits, and what the functions on rows and those for C answer and leave in
 -- what is lent to them. All go by the decoder and the encoder of crate microcode: document 01, "Numbers and what they mean".
-use Rattle.std.specs.Prelude.{ℕ, ◌+◌, ◌%◌, ◌^◌, ◌≡◌, ⊤, Bool, cond, ◌&&◌, List, [], ◌∷◌, ◌++◌, eqb, leb, length, get_or, drop, Option, Some, None, Result, Ok, Err}
+use Rattle.std.specs.Prelude.{ℕ, ◌%◌, ◌^◌, ◌≡◌, ⊤, Bool, cond, ◌&&◌, List, [], ◌∷◌, ◌++◌, eqb, leb, length, get_or, drop, Option, Some, None, Result, Ok, Err}
 use Rattle.units.specs.Units.{words}
 use Rattle.checks.specs.Verdict.{Verdict, verdict_number}
 use Rattle.formats.specs.declared.cf.CfWord0.{CfWord0}

@@ -2,11 +2,11 @@
 // its fields in AMD's order (specs/Values.antt and specs/FetchValues.antt). The functions for C are those on rows, with their answers as numbers.
 #![tactic(auto)]
 
-mod fetch_words;
 mod fetch_rows;
+mod fetch_words;
 mod in_row;
-mod pair_words;
 mod pair_rows;
+mod pair_words;
 
 ghost use Rattle.std.specs.Prelude.{◌≡◌};
 ghost use Rattle.microcode.specs.Pair.{stream_of};

@@ -97,9 +97,7 @@ impl InRow for CfWord0 {
     }
 
     fn put(self, values: &mut [u32]) {
-        values[..1].copy_from_slice(&[
-            (self.addr.0 % 0x1_0000_0000) as u32,
-        ]);
+        values[..1].copy_from_slice(&[(self.addr.0 % 0x1_0000_0000) as u32]);
     }
 
     ghost laws = { cf_word0_in_row };

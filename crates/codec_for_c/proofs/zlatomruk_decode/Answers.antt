@@ -1,8 +1,7 @@
 -- `codec_for_c::zlatomruk_decode` meets its contract: what was found is put into the first elements. Assumes nothing.
-use mathlib.Core.Path.{◌≡◌, sym, ◌∙◌, subst}
+use mathlib.Core.Path.{◌≡◌, sym, subst}
 use mathlib.Core.List.{List, ◌++◌}
 use Prim.Native.Nat.{ℕ}
-use native.Mathlib.Omega.{arith}
 use lib.ListN.{drop}
 use Rattle.microcode.specs.Buffer.{record_found}
 use Rattle.codec_for_c.specs.Values.{decoded_values, row_length, WordsAgain}

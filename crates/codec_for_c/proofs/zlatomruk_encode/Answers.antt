@@ -1,12 +1,11 @@
 -- `codec_for_c::zlatomruk_encode` meets its contract: the first elements are encoded as all are. Assumes nothing.
-use mathlib.Core.Path.{◌≡◌, sym, ap, ◌∙◌, subst}
+use mathlib.Core.Path.{sym, ap, ◌∙◌, subst}
 use mathlib.Core.List.{List}
 use Prim.Native.Nat.{ℕ}
 use Rattle.checks.specs.Verdict.{verdict_number}
-use Rattle.microcode.specs.Answer.{Encoded}
 use Rattle.microcode.specs.Pair.{stream_of}
 use Rattle.microcode.specs.Buffer.{encoded_verdict}
-use Rattle.codec_for_c.specs.Values.{encoded_from, encoded_number, encoded_words, record_of, stream_number, RowAgain}
+use Rattle.codec_for_c.specs.Values.{encoded_from, encoded_words, record_of, stream_number, RowAgain}
 use Rattle.codec_for_c.proofs.OfCodec.{first_from, first_words}
 use Rattle.codec_for_c.proofs.OfValues.{words_round_trip}
 use Rattle.codec_for_c.proofs.zlatomruk_encode.Goals as goal

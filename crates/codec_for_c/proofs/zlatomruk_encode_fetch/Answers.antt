@@ -1,9 +1,8 @@
 -- `codec_for_c::zlatomruk_encode_fetch` meets its contract: the first elements are encoded as all are. Assumes nothing.
-use mathlib.Core.Path.{◌≡◌, sym, ap, ◌∙◌, subst}
+use mathlib.Core.Path.{sym, ap, ◌∙◌, subst}
 use mathlib.Core.List.{List}
 use Prim.Native.Nat.{ℕ}
 use Rattle.checks.specs.Verdict.{verdict_number}
-use Rattle.microcode.specs.Answer.{Encoded}
 use Rattle.microcode.specs.Buffer.{encoded_verdict}
 use Rattle.codec_for_c.specs.FetchValues.{clause_number, fetch_from, fetch_words, FetchRowAgain}
 use Rattle.codec_for_c.proofs.OfFetchCodec.{first_from, first_words}

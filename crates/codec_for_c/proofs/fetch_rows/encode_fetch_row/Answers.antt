@@ -1,5 +1,4 @@
 -- `codec_for_c::fetch_rows::encode_fetch_row` meets its contract: the form picks the case. Assumes nothing.
-use mathlib.Core.Path.{refl}
 use mathlib.Core.Bool.{not, ◌&&◌}
 use native.Mathlib.Omega.{arith}
 use Rattle.fetch_codec.specs.Fetch.{fields_fit, word0_of, word1_of, word2_of, words_if}

@@ -18,16 +18,16 @@ returns-then-fits-2 g c =
     let d = fits_table g.C.Format.table (g.C.Format.values (g.C.InRow.at (1 + g.A.InRow.COUNT + g.B.InRow.COUNT) row)) in
     let first : c.if-taken.value ≡ (a && t) =
     elim c.if-taken.branch [
-      then-taken w ↦ w.value-is ∙ and_more true a t refl w.if-taken.true
-      (w.fits.ensures ∙ ap (λ r. fits_table g.A.Format.table (g.A.Format.values r)) (w.get.ensures ∙ got_behind g.met.A.InRow.laws.at_drop 1 32 row (omega arith)))
-    | else-taken w ↦ and_less true a t refl w.if-taken.false w.value-is
+      | then-taken w ↦ w.value-is ∙ and_more true a t refl w.if-taken.true
+          (w.fits.ensures ∙ ap (λ r. fits_table g.A.Format.table (g.A.Format.values r)) (w.get.ensures ∙ got_behind g.met.A.InRow.laws.at_drop 1 32 row (omega arith)))
+      | else-taken w ↦ and_less true a t refl w.if-taken.false w.value-is
     ] in
     let second : c.if-fits.value ≡ (a && b && t) =
     elim c.if-fits.branch [
-      then-fits w ↦ w.value-is ∙ and_more a b t first w.if-fits.true
-      (w.fits-then-fits.ensures ∙ ap (λ r. fits_table g.B.Format.table (g.B.Format.values r))
-      (w.get-then-fits.ensures ∙ got_behind g.met.B.InRow.laws.at_drop (1 + c.COUNT-second.result) 32 row (omega arith) ∙ ap (λ (n : ℕ). g.B.InRow.at (1 + n) row) c.COUNT-second.ensures))
-    | else-fits w ↦ and_less a b t first w.if-fits.false w.value-is
+      | then-fits w ↦ w.value-is ∙ and_more a b t first w.if-fits.true
+          (w.fits-then-fits.ensures ∙ ap (λ r. fits_table g.B.Format.table (g.B.Format.values r))
+          (w.get-then-fits.ensures ∙ got_behind g.met.B.InRow.laws.at_drop (1 + c.COUNT-second.result) 32 row (omega arith) ∙ ap (λ (n : ℕ). g.B.InRow.at (1 + n) row) c.COUNT-second.ensures))
+      | else-fits w ↦ and_less a b t first w.if-fits.false w.value-is
     ] in
     and_more (a && b) d t second c.if-fits-2.true
     (c.fits-then-fits-2.ensures ∙ ap (λ r. fits_table g.C.Format.table (g.C.Format.values r))
@@ -43,15 +43,15 @@ returns-else-fits-2 g c =
     let d = fits_table g.C.Format.table (g.C.Format.values (g.C.InRow.at (1 + g.A.InRow.COUNT + g.B.InRow.COUNT) row)) in
     let first : c.if-taken.value ≡ (a && t) =
     elim c.if-taken.branch [
-      then-taken w ↦ w.value-is ∙ and_more true a t refl w.if-taken.true
-      (w.fits.ensures ∙ ap (λ r. fits_table g.A.Format.table (g.A.Format.values r)) (w.get.ensures ∙ got_behind g.met.A.InRow.laws.at_drop 1 32 row (omega arith)))
-    | else-taken w ↦ and_less true a t refl w.if-taken.false w.value-is
+      | then-taken w ↦ w.value-is ∙ and_more true a t refl w.if-taken.true
+          (w.fits.ensures ∙ ap (λ r. fits_table g.A.Format.table (g.A.Format.values r)) (w.get.ensures ∙ got_behind g.met.A.InRow.laws.at_drop 1 32 row (omega arith)))
+      | else-taken w ↦ and_less true a t refl w.if-taken.false w.value-is
     ] in
     let second : c.if-fits.value ≡ (a && b && t) =
     elim c.if-fits.branch [
-      then-fits w ↦ w.value-is ∙ and_more a b t first w.if-fits.true
-      (w.fits-then-fits.ensures ∙ ap (λ r. fits_table g.B.Format.table (g.B.Format.values r))
-      (w.get-then-fits.ensures ∙ got_behind g.met.B.InRow.laws.at_drop (1 + c.COUNT-second.result) 32 row (omega arith) ∙ ap (λ (n : ℕ). g.B.InRow.at (1 + n) row) c.COUNT-second.ensures))
-    | else-fits w ↦ and_less a b t first w.if-fits.false w.value-is
+      | then-fits w ↦ w.value-is ∙ and_more a b t first w.if-fits.true
+          (w.fits-then-fits.ensures ∙ ap (λ r. fits_table g.B.Format.table (g.B.Format.values r))
+          (w.get-then-fits.ensures ∙ got_behind g.met.B.InRow.laws.at_drop (1 + c.COUNT-second.result) 32 row (omega arith) ∙ ap (λ (n : ℕ). g.B.InRow.at (1 + n) row) c.COUNT-second.ensures))
+      | else-fits w ↦ and_less a b t first w.if-fits.false w.value-is
     ] in
     and_less (a && b) d t second c.if-fits-2.false refl
