@@ -1,4 +1,6 @@
 // ALU instructions: ALU_WORD0 with ALU_WORD1_OP2 or ALU_WORD1_OP3.
+#![tactic(auto, using(bits::proofs::OfTables::joined_word, bits::proofs::OfTables::tested_fits), unfolding(crate::specs::Alu::word0_table, crate::specs::Alu::op2_table, crate::specs::Alu::op3_table))]
+
 ghost use Rattle.formats.specs.Alu as format;
 
 use crate::{Format, fields};

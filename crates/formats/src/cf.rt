@@ -1,4 +1,6 @@
 // Control-flow instructions other than ALU clause openers and exports: CF_WORD0 and CF_WORD1.
+#![tactic(auto, using(bits::proofs::OfTables::joined_word, bits::proofs::OfTables::tested_fits), unfolding(crate::specs::Cf::word0_table, crate::specs::Cf::word1_table))]
+
 ghost use Rattle.std.specs.Prelude.{◌≡◌};
 ghost use Rattle.formats.specs.Cf as format;
 

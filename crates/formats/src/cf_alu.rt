@@ -1,4 +1,6 @@
 // ALU clause openers (CF_ALU): CF_ALU_WORD0 and CF_ALU_WORD1.
+#![tactic(auto, using(bits::proofs::OfTables::joined_word, bits::proofs::OfTables::tested_fits), unfolding(crate::specs::CfAlu::word0_table, crate::specs::CfAlu::word1_table))]
+
 ghost use Rattle.formats.specs.CfAlu as format;
 
 use crate::{Format, count_fits, fields, low_half};

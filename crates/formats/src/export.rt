@@ -1,4 +1,6 @@
 // Exports: CF_ALLOC_EXPORT_WORD0 and CF_ALLOC_EXPORT_WORD1_SWIZ.
+#![tactic(auto, using(bits::proofs::OfTables::joined_word, bits::proofs::OfTables::tested_fits), unfolding(crate::specs::Export::word0_table, crate::specs::Export::word1_table))]
+
 ghost use Rattle.formats.specs.Export as format;
 
 use crate::{Format, fields};

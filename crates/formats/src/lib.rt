@@ -53,8 +53,8 @@ pub(crate) fn low_half(n: usize) -> u32
 pub(crate) fn count_fits(n: usize, f: Bits) -> bool
     ensures { result ≡ ltb n (2 ^ width_of f) }
 {
-    if n < 0x1_0000_0000 {
-        return bits::fits(n as u32, f);
+    match u32::try_from(n) {
+        Ok(n) => bits::fits(n, f),
+        Err(_) => false,
     }
-    false
 }

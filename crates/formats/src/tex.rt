@@ -1,4 +1,6 @@
 // Texture fetches: TEX_WORD0, TEX_WORD1 and TEX_WORD2, section 10.4.
+#![tactic(auto, using(bits::proofs::OfTables::joined_word, bits::proofs::OfTables::tested_fits), unfolding(crate::specs::Tex::word0_fields, crate::specs::Tex::word1_fields, crate::specs::Tex::word2_fields))]
+
 ghost use Rattle.formats.specs.Tex as format;
 
 use crate::{Format, fields};

@@ -1,4 +1,6 @@
 // Vertex fetches: VTX_WORD0, VTX_WORD1_GPR or VTX_WORD1_SEM, and VTX_WORD2, section 10.3.
+#![tactic(auto, using(bits::proofs::OfTables::joined_word, bits::proofs::OfTables::tested_fits), unfolding(crate::specs::Vtx::word0_fields, crate::specs::Vtx::gpr_fields, crate::specs::Vtx::sem_fields, crate::specs::Vtx::word2_fields))]
+
 ghost use Rattle.formats.specs.Vtx as format;
 
 use crate::{Format, fields};
