@@ -20,7 +20,7 @@ use Rattle.card.specs.Card.{CardRead}
 use Rattle.card.specs.Card.{Whole, BadAt}
 use Rattle.card.specs.Card.{BadAt, bad_line}
 use Rattle.card.specs.declared.BadLine.{BadLine}
-use Rattle.card.specs.Made.{CardTest, InRange}
+use Rattle.card.specs.Made.{InRange}
 use Rattle.card.proofs.OfFound.{found_some, number_some}
 use Rattle.card.proofs.OfLines.{lines_behind, lines_within}
 use Rattle.card.proofs.OfRows.{goes_on, past_1, past_2, past_3, past_4, past_5, past_6, past_7, card_lines_lem, tests_4, tests_5, tests_6, tests_7, tests_8, card_tests, holds_3, holds_4, holds_5, holds_6, holds_7}

@@ -1,6 +1,6 @@
 -- Keys and words: what it is to begin with one, and to be one. Assumes nothing.
 use mathlib.Core.Path.{◌≡◌, refl, ap, ap₂, sym, ◌∙◌}
-use mathlib.Core.Bool.{Bool, true, false, cond, not, ◌&&◌, false≢true}
+use mathlib.Core.Bool.{Bool, true, false, not, ◌&&◌, false≢true}
 use mathlib.Core.List.{List, [], ◌∷◌, ◌++◌}
 use Prim.Native.Nat.{ℕ, ◌≤◌}
 use native.Mathlib.Omega.{arith}
@@ -9,7 +9,7 @@ use lib.Dec.{eqb}
 use lib.ListN.{length, take, drop}
 use Rattle.std.specs.Cmp.Lexicographic.{pointwise}
 use Rattle.laws.proofs.OfTests.{both}
-use Rattle.std.specs.Prelude.{Some, None, find}
+use Rattle.std.specs.Prelude.{Some, None}
 use Rattle.card.specs.Text.{found, line_feed, first_line, behind_first, behind, line_of, begins_with, same_as, value_of, value_at}
 use Rattle.ascii.specs.Code.{feedless}
 use Rattle.card.proofs.OfLines.{feed_at, no_line, line_there}

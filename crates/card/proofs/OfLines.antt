@@ -6,7 +6,6 @@ use Rattle.std.specs.Prelude.{Option, None, Some, option_map}
 use Rattle.std.specs.List.{position, position_or_len}
 use Rattle.std.proofs.lemmas.Option.{none-some, cond_some}
 use Prim.Native.Nat.{ℕ, zero, suc, ◌+◌, ◌-◌, ◌≤◌, ◌<◌}
-use native.Mathlib.Nat.{zero-add}
 use native.Mathlib.Numerals.{add-one}
 use native.Mathlib.Omega.{arith}
 use borrow.Author.Tests.{eq-eqb, ne_eqb, lt-ltb, le-ltb, ltb-true, ltb-false}
@@ -33,9 +32,6 @@ end_within (b ∷ t) = by (eqb b line_feed) (end_within t)
 -- no line feed stands before i
 abbrev pub Passed : List ℕ → ℕ → Type 0
 Passed t i = line_end t ≡ i + line_end (drop i t)
-
-pub passed_none : (t : List ℕ) → Passed t 0
-passed_none t = sym (zero-add (line_end t))
 
 pub passed_more : (t : List ℕ) (i : ℕ) → i < length t → (get_or t i 0 ≡ line_feed → ⊥) → Passed t i → Passed t (i + 1)
 unfolding line_end
@@ -115,9 +111,6 @@ line_there t n h =
       line = first_end t ∙ rw (w.0, w.1);
       rest = behind_end t ∙ ap (λ (k : ℕ). drop (k + 1) t) w.1;
     }
-
-pub behind_within : (t : List ℕ) → length (behind_first t) ≤ length t
-behind_within t = omega (arith, ap length (behind_end t), length-drop (line_end t + 1) t)
 
 -- ---- one line after the other
 

@@ -1,15 +1,15 @@
 -- Decimal numbers: read one digit after the other, and refused as soon as they are above a limit. Assumes nothing.
 use mathlib.Core.Path.{◌≡◌, refl, ap, sym, ◌∙◌}
-use mathlib.Core.Bool.{Bool, true, false, cond, not, ◌&&◌, and-false, and-true, true≢false, false≢true}
+use mathlib.Core.Bool.{Bool, true, false, cond, ◌&&◌, and-false, and-true, true≢false, false≢true}
 use mathlib.Core.List.{List, [], ◌∷◌}
 use Rattle.std.specs.Prelude.{Option, None, Some}
 use Rattle.std.proofs.lemmas.Option.{none-some}
 use Prim.Native.Nat.{ℕ, ◌+◌, ◌-◌, ◌*◌, ◌^◌, ◌≤◌, ◌<◌}
-use native.Mathlib.Nat.{zero-add, add-zero, zero-mul, mul-one, add-mul, mul_assoc, add_assoc, pow-succ', one-le-pow, mul-le-mul_left}
+use native.Mathlib.Nat.{add-zero, mul-one, add-mul, mul_assoc, add_assoc, pow-succ', one-le-pow, mul-le-mul_left}
 use native.Mathlib.Numerals.{add-one}
 use native.Mathlib.Omega.{arith}
 use borrow.Author.Tests.{le-leb, lt-leb, leb-false}
-use lib.Dec.{eqb, leb}
+use lib.Dec.{leb}
 use lib.ListN.{length, get_or, drop, drop_of_length-le}
 use lib.Seq.{drop-cons}
 use Rattle.card.specs.Text.{found, is_digit, all_digits, is_decimal, digits_value, number_of, number_in, from◌to◌, of_32_bits}
@@ -48,13 +48,6 @@ not_allowed t allowed e = by (is_decimal t)
 pub record Counted (t : List ℕ) (n i : ℕ) : Type 0 where
   pub digits : all_digits t ≡ all_digits (drop i t)
   pub counted : digits_value t ≡ n * 10 ^ length (drop i t) + digits_value (drop i t)
-
-pub counted_none : (t : List ℕ) → Counted t 0 0
-counted_none t =
-    record {
-      digits = refl;
-      counted = sym (ap (λ (x : ℕ). x + digits_value t) (zero-mul (10 ^ length t)) ∙ zero-add (digits_value t));
-    }
 
 module _ (t : List ℕ) (n i : ℕ) (h : i < length t) (w : Counted t n i) where
   digit : drop i t ≡ get_or t i 0 ∷ drop (i + 1) t

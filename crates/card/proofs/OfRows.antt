@@ -9,7 +9,7 @@ use lib.Dec.{eqb}
 use Prim.Native.Nat.{ℕ, suc}
 use Rattle.card.specs.Text.{text, found, first_line, behind_first, behind, line_of, lines_length, value_of, value_at, word_in, number_of, number_in}
 use Rattle.card.specs.Card.{kinds, builds, gprs_allowed, temps_allowed, consts_allowed, stack_allowed, quads_allowed, CardRead, Whole, BadAt, judged, line, ◌>>=◌, card_with, card_of}
-use Rattle.card.specs.Made.{CardTest, first_not, test_of}
+use Rattle.card.specs.Made.{first_not, test_of}
 use Rattle.card.specs.Code.{every_kind, every_build}
 use Rattle.card.specs.Written.{kind_word, build_word}
 use Rattle.card.specs.declared.Kind.{Kind}

@@ -3,15 +3,14 @@
 use mathlib.Core.Path.{◌≡◌, refl, sym, ap, ap₂, subst, ◌∙◌}
 use mathlib.Core.Bool.{Bool, true, false, cond}
 use mathlib.Core.List.{List, [], ◌++◌, append-nil, append_assoc}
-use Prim.Native.Nat.{ℕ, ◌+◌, ◌≤◌, ◌<◌}
+use Prim.Native.Nat.{ℕ, ◌≤◌, ◌<◌}
 use native.Mathlib.Nat.{add-zero}
-use native.Mathlib.Numerals.{add-one}
 use native.Mathlib.Omega.{arith}
 use borrow.Author.Tests.{le-leb, lt-leb, leb-true}
-use lib.ListN.{length, get_or, take, drop, set, length-append, length-take, length-set, take-append-drop}
-use lib.Seq.{take_all, drop-drop, paste, paste-zero, paste-suc, take-paste, drop-paste}
+use lib.ListN.{length, take, drop, length-append, take-append-drop}
+use lib.Seq.{drop-drop}
 use Rattle.laws.proofs.OfCases.{impossible}
-use Rattle.report.specs.Buffer.{Written, Length, NoRoom, room, written_of, buffer_after}
+use Rattle.report.specs.Buffer.{Length, NoRoom, room, written_of, buffer_after}
 use Rattle.report.specs.Code.{Appended}
 
 -- nothing put
@@ -36,10 +35,6 @@ pub as_bytes : {at end : ℕ} {xs ys earlier later : List ℕ} → xs ≡ ys →
 as_bytes {at} {end} {xs} {ys} {earlier} {later} e a = subst (λ (l : List ℕ). Appended at l earlier later end) e a
 
 -- ---- the whole
-
--- a run from the start lies in the buffer
-pub within_buffer : {bytes earlier later : List ℕ} {end : ℕ} → Appended 0 bytes earlier later end → end ≤ length later
-within_buffer {bytes} {earlier} {later} {end} a = omega (arith, a.ends, ap length a.written, length-take end later)
 
 pub whole_buffer : (bytes buffer later : List ℕ) (end : ℕ) → Appended 0 bytes buffer later end → length bytes ≤ length buffer → later ≡ buffer_after bytes buffer
 unfolding buffer_after

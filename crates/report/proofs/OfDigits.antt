@@ -3,8 +3,8 @@ use mathlib.Core.Path.{◌≡◌, refl, sym, ap, ap₂, ◌∙◌}
 use mathlib.Core.List.{List, [], ◌∷◌, ◌++◌, append-nil, append_assoc}
 use Prim.Native.Nat.{ℕ, suc, ◌-◌, ◌/◌, ◌%◌, ◌^◌, ◌≤◌, ◌<◌}
 use native.Mathlib.Omega.{arith}
-use lib.ListN.{length, take, drop, set, length-append, length-drop, length-set}
-use lib.Seq.{take_all, drop-length, drop-cons, drop-set-lt, get_or-set_same}
+use lib.ListN.{length, drop, set, length-append, length-drop, length-set}
+use lib.Seq.{drop-length, drop-cons, drop-set-lt, get_or-set_same}
 use Rattle.ascii.specs.Decimal.{digit_of, decimal}
 use Rattle.ascii.proofs.OfDecimal.{by_digit, below_10, from_10, some_digit, at_most_20_digits}
 

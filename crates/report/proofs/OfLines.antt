@@ -1,7 +1,7 @@
 -- The lines as the code has them, one behind the other: whether they have room, and where they stand once they are put. Assumes nothing.
 use mathlib.Core.Path.{◌≡◌, refl, sym, ap, subst, ◌∙◌}
 use mathlib.Core.Bool.{Bool, true, false, cond}
-use Rattle.std.specs.Prelude.{Option, Some, None}
+use Rattle.std.specs.Prelude.{Some, None}
 use Rattle.std.proofs.lemmas.Option.{none-some, cond_some}
 use mathlib.Core.List.{List, [], ◌∷◌, ◌++◌, append-nil, append_assoc}
 use Prim.Native.Nat.{ℕ, ◌+◌, ◌-◌, ◌≤◌, ◌<◌}
@@ -15,16 +15,13 @@ use Rattle.report.specs.Report.{joined}
 use Rattle.std.specs.Borrow.{Bor}
 use Rattle.report.specs.declared.lines.Value.{Value}
 use Rattle.report.specs.Code.{Appended, text_line, value_text, text_lines}
-use Rattle.report.proofs.OfBuffer.{none_appended, both_appended, as_bytes}
+use Rattle.report.proofs.OfBuffer.{both_appended, as_bytes}
 
 -- ---- whether they have room
 
 -- the lines passed were taken off the room, and `rest` are left
 pub record Fitting (all rest : List (List ℕ)) (room left : ℕ) : Type 0 where
   pub taken : length (joined all) + left ≡ length (joined rest) + room
-
-pub none_taken : (all : List (List ℕ)) (room : ℕ) → Fitting all all room room
-none_taken all room = record { taken = refl }
 
 pub all_taken : {all : List (List ℕ)} {room left : ℕ} → Fitting all [] room left → true ≡ leb (length (joined all)) room
 all_taken {all} {room} w = sym (le-leb (length (joined all)) room (omega (arith, w.taken)))
@@ -56,9 +53,6 @@ pub record Putting (all rest : List (List ℕ)) (buffer later : List ℕ) (end :
   pub so_far : Appended 0 bytes buffer later end
   pub all_of : bytes ++ joined rest ≡ joined all
   pub same_length : length later ≡ length buffer
-
-pub none_put : (all : List (List ℕ)) (buffer : List ℕ) → Putting all all buffer buffer 0
-none_put all buffer = record { bytes = []; so_far = none_appended 0 buffer; all_of = refl; same_length = refl }
 
 pub all_put : {all : List (List ℕ)} {buffer later : List ℕ} {end : ℕ} → Putting all [] buffer later end → Appended 0 (joined all) buffer later end
 all_put w = as_bytes (sym (append-nil w.bytes) ∙ w.all_of) w.so_far

@@ -1,6 +1,6 @@
 -- An explanation of a verdict, as text: document 02, request 1: the key=value lines verdict, place, slot, rule, found and limit, in that
 -- order; for an accepted pack the verdict line only.
-use Rattle.std.specs.Prelude.{ℕ, cond, Option, Some, None, Ok, Err, List, [], ◌∷◌, eqb}
+use Rattle.std.specs.Prelude.{ℕ, cond, Option, Some, None, Err, List, [], ◌∷◌, eqb}
 use Prim.Native.String.{String}
 use Rattle.ascii.specs.Ascii.{ascii}
 use Rattle.ascii.specs.Decimal.{decimal}

@@ -1,4 +1,4 @@
-// A number in decimal. The library's `write!` and `InlineText` promise a number's text only where nothing was cut, and not that nothing is.
+// A number in decimal, by hand: the library's `write!` may fail and its `InlineText` be cut, and neither promises not to where there is room.
 ghost use Rattle.std.specs.Prelude.{◌≡◌, ◌<◌, ◌≤◌, drop};
 ghost use Rattle.ascii.specs.Decimal.{digit_of, decimal};
 

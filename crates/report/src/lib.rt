@@ -32,11 +32,20 @@ pub fn write_report(
     ensures out_after { out.new ≡ buffer_after (report_bytes build verdict) out.old }
 {
     let lines = [
-        ("build", Value::Word(build_word(shown_build(build, verdict)))),
-        ("verdict", Value::Number(checks::verdict_number(verdict) as usize)),
+        (
+            "build",
+            Value::Word(build_word(shown_build(build, verdict))),
+        ),
+        (
+            "verdict",
+            Value::Number(checks::verdict_number(verdict) as usize),
+        ),
         ("place", Value::Number(checks::verdict_place(verdict))),
         ("slot", Value::Number(checks::verdict_slot(verdict))),
-        ("release", Value::Word(yes_or_no(is_released(build, verdict)))),
+        (
+            "release",
+            Value::Word(yes_or_no(is_released(build, verdict))),
+        ),
     ];
     write_lines(&lines, out)
 }

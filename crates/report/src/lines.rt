@@ -92,7 +92,8 @@ fn put_value(out: &mut [u8], at: usize, value: Value) -> usize
     }
 }
 
-// Puts `bytes` into `out` from `at` on, and answers where they end.
+// Puts `bytes` into `out` from `at` on, and answers where they end. `out` and `at` stay two parameters: each contract of a struct that held the
+// lent buffer would have to say besides what becomes of the loan.
 fn put(out: &mut [u8], at: usize, bytes: &[u8]) -> usize
     requires { at + length bytes.now ≤ length out.old }
     ensures { Appended at bytes.now out.old out.new result }

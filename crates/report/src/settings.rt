@@ -1,4 +1,5 @@
-// Settings: lines NAME=number for names and numbers that a caller gives, any number of them.
+// Settings: lines NAME=number for names and numbers that a caller gives. Each is made where it is put, as no memory holds any number of them,
+// so that the two loops stand here besides those of lines.rt.
 ghost use Rattle.std.specs.Prelude.{◌≡◌, ◌≤◌, leb, length};
 ghost use Rattle.report.specs.Settings.{keys_for, settings_text};
 ghost use Rattle.report.specs.Buffer.{written_of, buffer_after};

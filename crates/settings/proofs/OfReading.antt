@@ -7,7 +7,7 @@ use Rattle.std.specs.Prelude.{Option, None, Some, MatchOption, option_copied}
 use Rattle.std.specs.Borrow.{Bor}
 use Rattle.std.specs.Cmp.Lexicographic.{pointwise}
 use Rattle.std.proofs.lemmas.Option.{none-some, cond_some}
-use Prim.Native.Nat.{ℕ, zero, suc, ◌+◌, ◌-◌, ◌^◌, ◌≤◌, ◌<◌}
+use Prim.Native.Nat.{ℕ, zero, suc, ◌+◌, ◌^◌, ◌≤◌, ◌<◌}
 use native.Mathlib.Nat.{add-zero, zero-add}
 use native.Mathlib.Numerals.{add-one}
 use native.Mathlib.Omega.{arith}
@@ -120,9 +120,6 @@ index_within keys bytes e = let below = index_from 0 keys bytes e in omega arith
 pub record Searched (names : List (Bor (List ℕ))) (bytes : List ℕ) (index : ℕ) : Type 0 where
   pub left : setting_of (keys_for names) bytes ≡ setting_from index (keys_for (drop index names)) bytes
 
-pub none_searched : (names : List (Bor (List ℕ))) (bytes : List ℕ) → Searched names bytes 0
-none_searched names bytes = record { left = refl }
-
 -- the key of a name
 abbrev pub key_for : Bor (List ℕ) → List ℕ
 key_for name = name.now ++ ascii "="
@@ -198,7 +195,7 @@ module _ (name bytes : List ℕ) where
     -- as the library answers for the equals sign
     pub sign_read : {rest : List ℕ} → rest ≡ drop (length name) bytes → (r : Option (Bor (List ℕ)))
         → MatchOption r (pointwise eqb (take 1 rest) (ascii "=") ≡ false)
-            (λ x. (pointwise eqb (take 1 rest) (ascii "=") ≡ true) × (x.now ≡ drop 1 rest) × (length x.now + 1 ≡ length rest))
+        (λ x. (pointwise eqb (take 1 rest) (ascii "=") ≡ true) × (x.now ≡ drop 1 rest) × (length x.now + 1 ≡ length rest))
         → option_copied r ≡ behind_key (name ++ ascii "=") bytes
     sign_read e None m = no_sign_there (rw e at m)
     sign_read e (Some x) m = ap Some (m.1 ∙ ap (λ (l : List ℕ). drop 1 l) e) ∙ sign_there (rw e at m.0)

@@ -1,9 +1,9 @@
 -- `card::read_card` meets its contract: behind each line, what the answer is once the lines so far are right. Assumes nothing.
-use Rattle.std.proofs.Common.{◌≡◌, sym, ◌∙◌, ap, ℕ, ◌+◌, ◌-◌, ◌≤◌, true, false, List, ◌++◌, length, Some, None, Err, arith}
+use Rattle.std.proofs.Common.{◌≡◌, sym, ◌∙◌, ap, ℕ, ◌+◌, ◌-◌, ◌≤◌, true, false, List, ◌++◌, length, Some, None, arith}
 use Rattle.std.proofs.lemmas.Result.{err_from_is_err_and}
 use lib.Dec.{leb}
 use Rattle.card.specs.Text.{text, found, behind_first, behind, lines_length, value_at, word_in, number_in, from◌to◌}
-use Rattle.card.specs.Card.{kinds, builds, gprs_allowed, temps_allowed, consts_allowed, stack_allowed, quads_allowed, Whole, BadAt, card_with, card_of}
+use Rattle.card.specs.Card.{kinds, builds, gprs_allowed, consts_allowed, stack_allowed, quads_allowed, Whole, BadAt, card_with, card_of}
 use Rattle.card.specs.declared.Kind.{Kind}
 use Rattle.card.specs.declared.Build.{Build}
 use Rattle.card.proofs.OfFound.{refused_with}

@@ -1,6 +1,6 @@
 -- `report::write_report` meets its contract: the lines are those of the report. Assumes nothing.
-use Rattle.std.proofs.Common.{◌≡◌, ◌∙◌, ap, List, ℕ}
-use Rattle.report.specs.Report.{report_bytes, build_text, yes_or_no}
+use Rattle.std.proofs.Common.{◌∙◌, ap, List, ℕ}
+use Rattle.report.specs.Report.{build_text, yes_or_no}
 use Rattle.report.specs.Buffer.{written_of, buffer_after}
 use Rattle.report.proofs.OfReport.{report_made}
 use Rattle.report.proofs.write_report.Goals as goal

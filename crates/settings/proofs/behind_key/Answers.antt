@@ -1,5 +1,4 @@
 -- `settings::behind_key` meets its contract: the name is there or not, and behind it the equals sign or not. Assumes nothing.
-use Rattle.std.proofs.Common.{◌≡◌, sym}
 use Rattle.settings.proofs.OfReading.{no_name_there, sign_read}
 use Rattle.settings.proofs.behind_key.Goals as goal
 

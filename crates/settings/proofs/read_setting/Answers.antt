@@ -1,5 +1,5 @@
 -- `settings::read_setting` meets its contract. The loop's invariant: the keys so far do not begin the setting. Assumes nothing.
-use Rattle.std.proofs.Common.{◌≡◌, sym, ◌∙◌, ap, Some, option_copied}
+use Rattle.std.proofs.Common.{sym, ◌∙◌, ap, option_copied}
 use Rattle.std.proofs.lemmas.Result.{err_from_is_err_and}
 use Rattle.card.proofs.OfFound.{refused_with}
 use Rattle.settings.proofs.OfReading.{as_said, all_searched, key_other, key_number, key_no_number}

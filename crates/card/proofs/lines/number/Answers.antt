@@ -1,7 +1,6 @@
 -- `card::lines::number` meets its contract: the value is a number within limits, or not. Assumes nothing.
-use Rattle.std.proofs.Common.{◌≡◌, sym, ◌∙◌, ap, refl, arith, Some}
+use Rattle.std.proofs.Common.{sym, ◌∙◌, refl, arith}
 use Rattle.std.proofs.lemmas.Result.{err_from_is_err_and}
-use Rattle.card.specs.Text.{found, number_in, from◌to◌}
 use Rattle.card.proofs.OfFound.{refused_with}
 use Rattle.card.proofs.OfNumbers.{within_some, within_not, within_none}
 use Rattle.card.proofs.lines.number.Goals as goal
@@ -11,8 +10,7 @@ returns-in_err-n c =
     let p = err_from_is_err_and c.from_residual-in_err-n.result c.from_residual-in_err-n.ensures.1 in
     let nothing = c.in_err-n.ensures.ok_part in
     let v = c.in_ok-text.ensures.0 in
-    rw (p.1, p.2, v)
-    (
+    rw (p.1, p.2, v) (
       within_none c.in_ok-text.text.now c.args.limits.low c.args.limits.high (omega arith) (sym nothing ∙ c.read_number.ensures),
       refused_with c.read_number.result nothing c.in_err-n.ensures.value,
     )
@@ -20,8 +18,7 @@ returns-in_err-n c =
 pub returns-then-not-allow : goal.returns-then-not-allow
 returns-then-not-allow c =
     let v = c.in_ok-text.ensures.0 in
-    rw v
-    (
+    rw v (
       within_not c.in_ok-text.text.now c.args.limits.low c.args.limits.high (sym c.in_ok-n.ensures.ok_part ∙ c.read_number.ensures)
           (sym c.allow.ensures ∙ c.if-not-allow.true),
       refl,
@@ -30,8 +27,7 @@ returns-then-not-allow c =
 pub returns : goal.returns
 returns c =
     let v = c.in_ok-text.ensures.0 in
-    rw v
-    (
+    rw v (
       within_some c.in_ok-text.text.now c.args.limits.low c.args.limits.high (sym c.in_ok-n.ensures.ok_part ∙ c.read_number.ensures)
           (sym c.allow.ensures ∙ c.if-not-allow.false),
       c.in_ok-text.ensures.1,

@@ -19,8 +19,7 @@ pub returns-in_err-value : goal.returns-in_err-value
 returns-in_err-value c =
     let p = err_from_is_err_and c.from_residual-in_err-value.result c.from_residual-in_err-value.ensures.1 in
     let nothing = c.in_err-value.ensures.ok_part in
-    rw (p.1, p.2)
-    (
+    rw (p.1, p.2) (
       value_other c.args.key.now c.args.bytes.now c.in_ok-end.end (sym c.line_feed.ensures ∙ c.in_ok-end.ensures.ok_part)
           (MatchOption-at_none _ _ nothing c.strip_prefix.ensures.cases),
       refused_with c.strip_prefix.result nothing c.in_err-value.ensures.value,
@@ -30,8 +29,7 @@ pub returns : goal.returns
 returns c =
     let s = c.args.bytes.now in
     let found-it = sym c.line_feed.ensures ∙ c.in_ok-end.ensures.ok_part in
-    let w = MatchOption-at_some _ _ c.in_ok-value.value c.in_ok-value.ensures.ok_part c.strip_prefix.ensures.cases in
-    (
+    let w = MatchOption-at_some _ _ c.in_ok-value.value c.in_ok-value.ensures.ok_part c.strip_prefix.ensures.cases in (
       value_there c.args.key.now s c.in_ok-end.end found-it w.0 ∙ ap Some (sym w.1),
       to_the_end (c.in_ok-end.end + 1) s ∙ sym (line_there s c.in_ok-end.end found-it).rest,
     )

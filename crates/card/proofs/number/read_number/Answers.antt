@@ -1,5 +1,5 @@
 -- `card::number::read_number` meets its contract: the bytes are digits, or one is none, or the number grows too large. Assumes nothing.
-use Rattle.std.proofs.Common.{sym, ◌∙◌, subst, ◌≡◌, ℕ, length, get_or, ◌+◌, ◌-◌, ◌*◌, ◌<◌, arith}
+use Rattle.std.proofs.Common.{sym, ◌∙◌, subst, ◌≡◌, ℕ, get_or, ◌+◌, ◌-◌, ◌*◌, arith}
 use Rattle.card.proofs.OfNumbers.{Counted, read_malformed, read_other, read_over, read_all, counted_more}
 use Rattle.card.proofs.number.read_number.Goals as goal
 
@@ -26,8 +26,7 @@ pub loop-b-preserved : goal.loop-b-preserved
 loop-b-preserved c =
     let t = c.args.text.now in
     let i = c.loop-b.b-index in
-    let e : c.loop-b.n * 10 + (get_or t i 0 - 48) ≡ c.in_ok-n.n = omega (arith, c.in_ok-checked_mul.ensures, c.in_ok-n.ensures) in
-    (
+    let e : c.loop-b.n * 10 + (get_or t i 0 - 48) ≡ c.in_ok-n.n = omega (arith, c.in_ok-checked_mul.ensures, c.in_ok-n.ensures) in (
       omega (arith, c.in_ok-checked_mul.ensures, c.in_ok-n.ensures),
       subst (λ (n : ℕ). Counted t n (i + 1)) e
           (counted_more _ _ _ c.loop-b-test.true c.loop-b.invariant.1 (sym c.is_ascii_digit.ensures.value ∙ c.if-not-is_ascii_digit.false)),

@@ -1,5 +1,5 @@
 -- `report::explanation::write_explanation` meets its contract: one line for an accepted pack. Assumes nothing.
-use Rattle.std.proofs.Common.{◌≡◌, ◌∙◌, ap, List, ℕ}
+use Rattle.std.proofs.Common.{◌∙◌, ap, List, ℕ}
 use Rattle.report.specs.Buffer.{written_of, buffer_after}
 use Rattle.report.proofs.OfExplanation.{accepted_made}
 use Rattle.report.proofs.explanation.write_explanation.Goals as goal

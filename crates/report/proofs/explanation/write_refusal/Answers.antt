@@ -1,5 +1,5 @@
 -- `report::explanation::write_refusal` meets its contract: the lines are those of the explanation. Assumes nothing.
-use Rattle.std.proofs.Common.{◌≡◌, ◌∙◌, ap, List, ℕ}
+use Rattle.std.proofs.Common.{◌∙◌, ap, List, ℕ}
 use Rattle.report.specs.Buffer.{written_of, buffer_after}
 use Rattle.report.proofs.OfExplanation.{refusal_made}
 use Rattle.report.proofs.explanation.write_refusal.Goals as goal

@@ -1,7 +1,6 @@
 -- `report::lines::have_room` meets its contract: the lines passed were taken off the room. Assumes nothing.
-use Rattle.std.proofs.Common.{◌≡◌, subst, sym, List, ℕ}
-use Rattle.report.specs.Code.{text_lines}
-use Rattle.report.proofs.OfLines.{Fitting, none_taken, all_taken, line_too_long, line_taken, too_long, left_over, fitting_here, no_lines_left}
+use Rattle.std.proofs.Common.{sym}
+use Rattle.report.proofs.OfLines.{all_taken, line_too_long, line_taken, too_long, left_over, fitting_here, no_lines_left}
 use Rattle.report.proofs.lines.have_room.Goals as goal
 
 pub returns-in_default : goal.returns-in_default

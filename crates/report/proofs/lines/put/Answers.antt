@@ -1,5 +1,5 @@
 -- `report::lines::put` meets its contract: the bytes stand in a part of the buffer. Assumes nothing.
-use Rattle.std.proofs.Common.{refl, ◌∙◌, ap, sym, ◌++◌, take, length, List, ℕ, arith}
+use Rattle.std.proofs.Common.{refl, ◌∙◌, ap, ◌++◌, take, length, List, ℕ, arith}
 use Rattle.std.proofs.lemmas.Slice.{take-put_mid, drop-put_mid}
 use Rattle.report.proofs.lines.put.Goals as goal
 

@@ -1,6 +1,5 @@
 -- `report::lines::put_lines` meets its contract: the lines passed stand at the start of the buffer. Assumes nothing.
-use Rattle.std.proofs.Common.{◌≡◌}
-use Rattle.report.proofs.OfLines.{Putting, none_put, all_put, line_room, line_put, putting_here, no_lines_left}
+use Rattle.report.proofs.OfLines.{all_put, line_room, line_put, putting_here, no_lines_left}
 use Rattle.report.proofs.lines.put_lines.Goals as goal
 
 pub put_line-at-requires : goal.put_line-at-requires

@@ -1,9 +1,9 @@
 -- `report::settings::have_room` meets its contract: the lines of what is left were not yet taken off the room. Assumes nothing.
-use Rattle.std.proofs.Common.{◌≡◌, ◌∙◌, ap, sym, subst, List, ℕ, length, leb, arith}
+use Rattle.std.proofs.Common.{sym, arith}
 use Rattle.std.specs.Iterator.Adapters.{zip_first, zip_second}
 use Rattle.std.specs.Slice.Iter.{iter_rest}
 use mathlib.Core.Logic.{inl, inr, ⊎_elim}
-use Rattle.report.proofs.OfLines.{Fitting, all_taken, line_too_long, line_taken, too_long, left_over}
+use Rattle.report.proofs.OfLines.{all_taken, line_too_long, line_taken, too_long, left_over}
 use Rattle.report.proofs.OfSettings.{settings_lines, lines_next, lines_end}
 use Rattle.report.proofs.settings.have_room.Goals as goal
 

@@ -1,9 +1,9 @@
 -- `report::settings::put_settings` meets its contract: the lines of what is left do not stand in the buffer yet. Assumes nothing.
-use Rattle.std.proofs.Common.{◌≡◌, ◌∙◌, ap, sym, subst, List, ℕ, length, leb, arith}
+use Rattle.std.proofs.Common.{ap, length, arith}
 use Rattle.std.specs.Iterator.Adapters.{zip_first, zip_second}
 use Rattle.std.specs.Slice.Iter.{iter_rest}
 use mathlib.Core.Logic.{inl, inr, ⊎_elim}
-use Rattle.report.proofs.OfLines.{Putting, all_put, line_room, line_put}
+use Rattle.report.proofs.OfLines.{all_put, line_room, line_put}
 use Rattle.report.proofs.OfSettings.{settings_lines, lines_next, lines_end}
 use Rattle.report.proofs.settings.put_settings.Goals as goal
 

@@ -1,5 +1,4 @@
 -- `report::decimal::Decimal::of` meets its contract: the digits of `rest` are still to come, before those written. Assumes nothing.
-use Rattle.std.proofs.Common.{◌<◌, replicate}
 use Rattle.report.proofs.OfDigits.{Spelt}
 use Rattle.report.proofs.decimal.Decimal.of.Given as goal
 
