@@ -30,6 +30,7 @@ use Rattle.fetch_pack.specs.declared.PackError.{PackError}
 use Rattle.fetch_pack.specs.declared.PackError.TheVariants.{TooLong, NotWhole}
 use Rattle.fetch_pack.specs.declared.PackError.TheVariants as pack_error
 use Rattle.fetch_pack.specs.Pack.{of_pack, length_test, on_words, pack_shown, pack_shown_after, pack_edit, pack_after, bytes_after, OthersStay, PackPromised}
+use Rattle.fetch_pack.specs.Code.{EditedIn}
 
 -- ---- by the pack's length
 
@@ -169,12 +170,6 @@ others_stay d pack text start small w =
 all_stay : (pack : List ℕ) (start : Words) → OthersStay pack pack start
 all_stay pack start = record { earlier = refl; later = refl }
 
--- words of 32 bits in the first of two lists
-first_small : (xs ys : List ℕ) → ((k : ℕ) → get_or (xs ++ ys) k 0 < 2 ^ 32) → (k : ℕ) → get_or xs k 0 < 2 ^ 32
-first_small [] ys h k = omega arith
-first_small (x ∷ xs) ys h zero = h 0
-first_small (x ∷ xs) ys h (suc k) = first_small xs ys (λ j. h (suc j)) k
-
 -- as many words as the pack has, stored over it, are its bytes
 stored_whole : (pack ws : List ℕ) → length pack % 4 ≡ 0 → length ws ≡ length pack / 4 → stored_in ws pack ≡ bytes_of ws
 stored_whole pack ws w e =
@@ -193,67 +188,58 @@ told_of (Err why) (Err more) h = cc
 module _ (clause : Clause) (pack text : List ℕ) (start : Words) {ws after : List ℕ} {r : Result ⊤ EditError} (is : ws ≡ words_in pack)
     (told : r ≡ edit_of (decode_of clause ws start) text) (words : after ≡ edited_words (decode_of clause ws start) text ws start)
     (promised : Promised clause ws after text start r) where
-  pub as_many : length after ≡ length pack / 4
+  as_many : length after ≡ length pack / 4
   as_many = ap length words ∙ edited_length (decode_of clause ws start) text ws start ∙ ap length is ∙ words_length pack
 
   answered : r ≡ edit_of (decode_of clause (words_in pack) start) text
   answered = told ∙ ap (λ (l : List ℕ). edit_of (decode_of clause l start) text) is
 
-  -- what a pack of the right length becomes, and what is promised of it
-  record EditedIn (bytes : List ℕ) : Type 0 where
-    pub bytes_are : bytes
-        ≡ bytes_after (edit_of (decode_of clause (words_in pack) start) text) pack (edited_words (decode_of clause (words_in pack) start) text (words_in pack) start)
-    pub others : OthersStay pack bytes start
-    pub promised_of : Promised clause (words_in pack) (words_in bytes) text start r
-
-  -- and what is told of it
-  pub record PackEdited (bytes : List ℕ) : Type 0 where
-    pub value : on_words r ≡ pack_edit clause pack start text
-    pub bytes_after_it : bytes ≡ pack_after clause pack start text
-    pub promised_so : PackPromised clause pack bytes text start (on_words r)
-
-  told_so : {bytes : List ℕ} → IsPack pack → EditedIn bytes → PackEdited bytes
-  told_so {bytes} p e =
+  -- nothing was stored
+  pub edit_refused : {e : EditError} → r ≡ Err e → EditedIn clause pack pack text start r
+  edit_refused {e} h =
+      let stay = words ∙ words_stay (decode_of clause ws start) text ws start (sym told ∙ h) in
       record {
-        value =
-            ap (λ (x : Result ⊤ EditError). on_words x) answered
-            ∙ sym (on_pack p (Err TooLong) (Err NotWhole) (on_words (edit_of (decode_of clause (words_in pack) start) text)));
-        bytes_after_it =
-            e.bytes_are
-            ∙ sym (on_pack p pack pack
-            (bytes_after (edit_of (decode_of clause (words_in pack) start) text) pack (edited_words (decode_of clause (words_in pack) start) text (words_in pack) start)));
-        promised_so = record {
-          others = e.others;
-          words = λ x q. subst (λ (x : Result ⊤ EditError). Promised clause (words_in pack) (words_in bytes) text start x) (told_of r x q) e.promised_of;
-        };
+        told = answered;
+        bytes = ap (λ (x : Result ⊤ EditError). bytes_after x pack (edited_words (decode_of clause (words_in pack) start) text (words_in pack) start)) (sym h ∙ answered);
+        others = all_stay pack start;
+        promised = subst (λ (l : List ℕ). Promised clause l l text start r) is (subst (λ (l : List ℕ). Promised clause ws l text start r) stay promised);
       }
 
-  -- nothing was stored
-  pub edit_refused : {e : EditError} → IsPack pack → r ≡ Err e → PackEdited pack
-  edit_refused {e} p h =
-      let stay = words ∙ words_stay (decode_of clause ws start) text ws start (sym told ∙ h) in
-      told_so p (record {
-        bytes_are = ap (λ (x : Result ⊤ EditError). bytes_after x pack (edited_words (decode_of clause (words_in pack) start) text (words_in pack) start)) (sym h ∙ answered);
-        others = all_stay pack start;
-        promised_of = subst (λ (l : List ℕ). Promised clause l l text start r) is (subst (λ (l : List ℕ). Promised clause ws l text start r) stay promised);
-      })
-
   -- the words were stored
-  pub edit_stored : {bytes : List ℕ} {t : ⊤} (n : ℕ) (rest : List ℕ) → IsPack pack → r ≡ Ok t → n ≡ length pack / 4 → ((k : ℕ) → get_or (after ++ rest) k 0 < 2 ^ 32)
-      → ((k : ℕ) → get_or pack k 0 < 256) → bytes ≡ stored_in (take n (after ++ rest)) pack → PackEdited bytes
-  edit_stored {bytes} n rest p q e small pack_small b =
-      let w : length pack % 4 ≡ 0 = omega (arith, p.whole) in
-      let first_part : take n (after ++ rest) ≡ after = take_at after rest n (as_many ∙ sym e) in
-      let whole = b ∙ ap (λ (l : List ℕ). stored_in l pack) first_part ∙ stored_whole pack after w as_many in
-      let back : after ≡ words_in bytes = sym (ap words_in whole ∙ words_back after (first_small after rest small)) in
+  pub edit_stored : {bytes : List ℕ} {t : ⊤} → r ≡ Ok t → length pack % 4 ≡ 0 → ((k : ℕ) → get_or after k 0 < 2 ^ 32) → ((k : ℕ) → get_or pack k 0 < 256)
+      → bytes ≡ stored_in after pack → EditedIn clause pack bytes text start r
+  edit_stored {bytes} q w small pack_small b =
+      let whole = b ∙ stored_whole pack after w as_many in
+      let back : after ≡ words_in bytes = sym (ap words_in whole ∙ words_back after small) in
       let edited_bytes = whole ∙ ap bytes_of (words ∙ ap (λ (l : List ℕ). edited_words (decode_of clause l start) text l start) is) in
-      told_so p (record {
-        bytes_are =
+      record {
+        told = answered;
+        bytes =
             edited_bytes
             ∙ ap (λ (x : Result ⊤ EditError). bytes_after x pack (edited_words (decode_of clause (words_in pack) start) text (words_in pack) start)) (sym q ∙ answered);
         others = subst (λ (b : List ℕ). OthersStay pack b start) (sym edited_bytes) (others_stay (decode_of clause (words_in pack) start) pack text start pack_small w);
-        promised_of = subst (λ (l : List ℕ). Promised clause (words_in pack) l text start r) back (subst (λ (l : List ℕ). Promised clause l after text start r) is promised);
-      })
+        promised = subst (λ (l : List ℕ). Promised clause (words_in pack) l text start r) back (subst (λ (l : List ℕ). Promised clause l after text start r) is promised);
+      }
+
+-- what a pack of the right length becomes, and what is told of it
+module _ {clause : Clause} {pack bytes text : List ℕ} {start : Words} {r : Result ⊤ EditError} (p : IsPack pack) (e : EditedIn clause pack bytes text start r) where
+  pub pack_told : on_words r ≡ pack_edit clause pack start text
+  pack_told =
+      ap (λ (x : Result ⊤ EditError). on_words x) e.told
+      ∙ sym (on_pack p (Err TooLong) (Err NotWhole) (on_words (edit_of (decode_of clause (words_in pack) start) text)))
+
+  pub pack_edited : bytes ≡ pack_after clause pack start text
+  pack_edited =
+      e.bytes
+      ∙ sym (on_pack p pack pack
+      (bytes_after (edit_of (decode_of clause (words_in pack) start) text) pack (edited_words (decode_of clause (words_in pack) start) text (words_in pack) start)))
+
+  pub pack_promised_lem : PackPromised clause pack bytes text start (on_words r)
+  pack_promised_lem =
+      record {
+        others = e.others;
+        words = λ x q. subst (λ (x : Result ⊤ EditError). Promised clause (words_in pack) (words_in bytes) text start x) (told_of r x q) e.promised;
+      }
 
 -- ---- what is promised of the words
 

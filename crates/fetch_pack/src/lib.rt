@@ -2,9 +2,11 @@
 // stores them again where nothing is wrong.
 #![tactic(auto)]
 
-ghost use Rattle.std.specs.Prelude.{◌≡◌};
+ghost use Rattle.std.specs.Prelude.{◌≡◌, ◌%◌, length};
+ghost use Rattle.input.specs.Words.{words_in};
 ghost use Rattle.fetch_pack.specs.declared.PackError.TheVariants as pack_error;
 ghost use Rattle.fetch_pack.specs.Pack.{length_test, pack_shown, pack_shown_after, pack_edit, pack_after, PackPromised};
+ghost use Rattle.fetch_pack.specs.Code.{EditedIn};
 
 use fetch_codec::Clause;
 use fetch_text::{EditError, ShowError};
@@ -52,8 +54,17 @@ pub fn edit_fetch(clause: Clause, pack: &mut [u8], start: Words, settings: &[u8]
     test_length::<EditError>(pack)?;
     let mut room = [0u32; 16384];
     let n = input::load(pack, &mut room);
-    fetch_text::edit_fetch(clause, &mut room[..n], start, settings)?;
-    input::store(&room[..n], pack);
+    Ok(edit_words(clause, &mut room[..n], start, settings, pack)?)
+}
+
+// The same with the pack's words, which are stored again where the edit is done.
+fn edit_words(clause: Clause, words: &mut [u32], start: Words, settings: &[u8], pack: &mut [u8]) -> Result<(), EditError>
+    requires words { words.old ≡ words_in pack.old }
+    requires whole { length pack.old % 4 ≡ 0 }
+    ensures { EditedIn clause pack.old pack.new settings.now start result }
+{
+    fetch_text::edit_fetch(clause, words, start, settings)?;
+    input::store(words, pack);
     Ok(())
 }
 
