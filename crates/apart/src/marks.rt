@@ -73,8 +73,7 @@ fn has_clash(marks: &mut [u8]) -> bool
     requires { (0 < length marks.old) × (length marks.old ≤ 128) }
     ensures { Claimed marks.old result marks.new }
 {
-    let length = marks.len();
-    let first = length as u8 + 1;
+    let first = marks.len() as u8 + 1;
     if marks[0] == first {
         return false;
     }
