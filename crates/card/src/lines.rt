@@ -13,7 +13,8 @@ pub(crate) fn value<'a>(
     line: usize,
     key: &[u8],
 ) -> Result<(&'a [u8], &'a [u8]), BadLine>
-    ensures { MatchResult result (λ x. (value_at 1 key.now bytes.now ≡ Some x.0.now) × (x.1.now ≡ behind_first bytes.now)) (λ e. (value_at 1 key.now bytes.now ≡ None) × (e ≡ bad_line line)) }
+    ensures { let said = value_at 1 key.now bytes.now in
+        MatchResult result (λ x. (said ≡ Some x.0.now) × (x.1.now ≡ behind_first bytes.now)) (λ e. (said ≡ None) × (e ≡ bad_line line)) }
 {
     let end = line_feed(bytes).ok_or(BadLine(line))?;
     let value = bytes[..end].strip_prefix(key).ok_or(BadLine(line))?;
@@ -34,7 +35,8 @@ pub(crate) fn number<'a>(
     key: &[u8],
     limits: Limits,
 ) -> Result<(u32, &'a [u8]), BadLine>
-    ensures { MatchResult result (λ x. (found (value_at 1 key.now bytes.now) (number_in (from limits.low to limits.high)) ≡ Some x.0) × (x.1.now ≡ behind_first bytes.now)) (λ e. (found (value_at 1 key.now bytes.now) (number_in (from limits.low to limits.high)) ≡ None) × (e ≡ bad_line line)) }
+    ensures { let said = found (value_at 1 key.now bytes.now) (number_in (from limits.low to limits.high)) in
+        MatchResult result (λ x. (said ≡ Some x.0) × (x.1.now ≡ behind_first bytes.now)) (λ e. (said ≡ None) × (e ≡ bad_line line)) }
 {
     let (text, rest) = value(bytes, line, key)?;
     let n = read_number(text).ok_or(BadLine(line))?;

@@ -6,6 +6,7 @@ ghost use Rattle.report.specs.Buffer.{written_of, buffer_after};
 ghost use Rattle.report.specs.Code.{value_text};
 
 use crate::TooSmall;
+use crate::lines::Value::{Number, Word};
 use crate::lines::{Value, write_lines};
 use checks::{Explanation, NotGranted, Refusal};
 
@@ -15,7 +16,7 @@ pub fn write_explanation(explanation: Explanation, out: &mut [u8]) -> Result<usi
     ensures out_after { out.new ≡ buffer_after (explanation_bytes explanation) out.old }
 {
     match explanation.verdict {
-        Ok(()) => write_lines(&[("verdict", Value::Number(0))], out),
+        Ok(()) => write_lines(&[("verdict", Number(0))], out),
         Err(refusal) => write_refusal(refusal, explanation.fault, out),
     }
 }
@@ -30,10 +31,10 @@ fn write_refusal(
 {
     let (found, limit) = numbers_of(fault);
     let lines = [
-        ("verdict", Value::Number(refusal.rule as usize)),
-        ("place", Value::Number(usize::from(refusal.place))),
-        ("slot", Value::Number(refusal.slot.0)),
-        ("rule", Value::Word(rule_word(refusal.rule))),
+        ("verdict", Number(refusal.rule as usize)),
+        ("place", Number(usize::from(refusal.place))),
+        ("slot", Number(refusal.slot.0)),
+        ("rule", Word(rule_word(refusal.rule))),
         ("found", found),
         ("limit", limit),
     ];
@@ -46,8 +47,8 @@ fn numbers_of(fault: Option<NotGranted>) -> (Value, Value)
     ensures limit { value_text result.1 ≡ limit_text fault }
 {
     match fault {
-        Some(at) => (Value::Number(at.found), Value::Number(at.limit)),
-        None => (Value::Word("-"), Value::Word("-")),
+        Some(at) => (Number(at.found), Number(at.limit)),
+        None => (Word("-"), Word("-")),
     }
 }
 

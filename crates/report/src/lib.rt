@@ -14,7 +14,8 @@ ghost use Rattle.report.specs.Buffer.{written_of, buffer_after};
 use card::Build;
 use checks::Verdict;
 pub use explanation::write_explanation;
-use lines::{Value, write_lines};
+use lines::Value::{Number, Word};
+use lines::write_lines;
 pub use settings::write_settings;
 
 // The buffer is too small for what was to be written.
@@ -32,20 +33,11 @@ pub fn write_report(
     ensures out_after { out.new ≡ buffer_after (report_bytes build verdict) out.old }
 {
     let lines = [
-        (
-            "build",
-            Value::Word(build_word(shown_build(build, verdict))),
-        ),
-        (
-            "verdict",
-            Value::Number(checks::verdict_number(verdict) as usize),
-        ),
-        ("place", Value::Number(checks::verdict_place(verdict))),
-        ("slot", Value::Number(checks::verdict_slot(verdict))),
-        (
-            "release",
-            Value::Word(yes_or_no(is_released(build, verdict))),
-        ),
+        ("build", Word(build_word(shown_build(build, verdict)))),
+        ("verdict", Number(checks::verdict_number(verdict) as usize)),
+        ("place", Number(checks::verdict_place(verdict))),
+        ("slot", Number(checks::verdict_slot(verdict))),
+        ("release", Word(yes_or_no(is_released(build, verdict)))),
     ];
     write_lines(&lines, out)
 }
