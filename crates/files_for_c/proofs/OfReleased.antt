@@ -4,6 +4,7 @@ use mathlib.Core.Bool.{Bool, true, false, cond}
 use mathlib.Core.List.{List}
 use Prim.Native.Nat.{ℕ, ◌<◌}
 use native.Mathlib.Omega.{arith}
+use mir.Val.{bool_byte}
 use Rattle.report.specs.Report.{released}
 use Rattle.report.proofs.OfReport.{released_exactly_if}
 use Rattle.input.specs.Input.{judged_of_files}
@@ -19,6 +20,11 @@ bit_below j = by (released j.build j.verdict)
     by : (x : Bool) → cond x 1 0 < 2
     by true = omega arith
     by false = omega arith
+
+-- the bit that the library makes of an answer
+pub bit_made : (x : Bool) → bool_byte x ≡ cond x 1 0
+bit_made true = refl
+bit_made false = refl
 
 bit_set : (x : Bool) → ◌≡◌ {A = ℕ} (cond x 1 0) 1 → x ≡ true
 bit_set true h = refl

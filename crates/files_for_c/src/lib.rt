@@ -2,7 +2,7 @@
 // verdict comes back as one number (crate judge_for_c, specs/Packed.antt).
 #![tactic(auto)]
 
-ghost use Rattle.std.specs.Prelude.{◌≡◌, cond};
+ghost use Rattle.std.specs.Prelude.{◌≡◌};
 ghost use Rattle.input.specs.Input.{judged_of_files};
 ghost use Rattle.files_for_c.specs.Files.{packed_answer, FilesRead};
 
@@ -13,13 +13,6 @@ pub extern "C" fn zlatomruk_judge_files(card: &[u8], pack: &[u8]) -> u64
     ensures files_read { FilesRead card.now pack.now result }
 {
     let judged = input::judge_files(card, pack);
-    let build = judged.build;
-    let v = judged.verdict;
-    judge_for_c::packed_number(v, bit_of(report::is_released(build, v)))
-}
-
-fn bit_of(yes: bool) -> u64
-    ensures { result ≡ cond yes 1 0 }
-{
-    if yes { 1 } else { 0 }
+    let released = report::is_released(judged.build, judged.verdict);
+    judge_for_c::packed_number(judged.verdict, u64::from(released))
 }

@@ -13,7 +13,6 @@ use Rattle.ascii.specs.Decimal.{decimal, decimal_within}
 use Rattle.std.specs.Prelude.{Some, None}
 use Rattle.checks.specs.Verdict.{Verdict}
 use Rattle.report.specs.Report.{report_lines, report_bytes}
-
 use Rattle.judge.specs.Judge.{judgement}
 use Rattle.input.specs.Words.{words_in}
 use Rattle.input.specs.Input.{answer, bad_line, bad_length, pack_verdict, judged_of, judged_of_files, report_of}

@@ -12,7 +12,7 @@ use lib.Dec.{eqb}
 use lib.ListN.{length, take, drop, drop_of_length-le}
 use lib.Seq.{take_at, drop-append_seam}
 use Rattle.laws.proofs.OfCases.{impossible}
-use Rattle.std.specs.Prelude.{Option, Some, None, Err}
+use Rattle.std.specs.Prelude.{Option, Some, Err}
 use Rattle.checks.specs.Verdict.{Accepted}
 use Rattle.checks.proofs.OfChecks.{never_accepted}
 use Rattle.card.specs.Card.{CardRead, Whole, card_lines, card_of}

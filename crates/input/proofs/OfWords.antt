@@ -3,19 +3,19 @@ use mathlib.Core.Path.{◌≡◌, refl, ap, ap₂, sym, ◌∙◌}
 use mathlib.Core.List.{List, [], ◌∷◌, ◌++◌, append_assoc}
 use mathlib.Core.Bool.{true, false}
 use Prim.Native.Nat.{ℕ, zero, suc, ◌+◌, ◌*◌, ◌/◌, ◌%◌, ◌^◌, ◌≤◌, ◌<◌, min}
-use native.Mathlib.Nat.{zero-add, min-le_left, min-le_right, min-eq_left, mod-eq_of_lt, div-eq_of_lt, div-add-mod', add-mul-mod_self_right, add-mul-div_right}
+use native.Mathlib.Nat.{zero-add, min-eq_left, mod-eq_of_lt, div-eq_of_lt, div-add-mod', add-mul-mod_self_right, add-mul-div_right}
 use native.Mathlib.Numerals.{add-one}
 use native.Mathlib.Omega.{arith}
 use lib.Dec.{ltb}
-use lib.ListN.{length, get_or, take, drop, set, length-set, drop_of_length-le, take-append-drop, get_or-eq_default}
+use lib.ListN.{length, get_or, take, drop, set, drop_of_length-le, take-append-drop, get_or-eq_default}
 use borrow.Author.Tests.{ltb-true, ltb-false}
-use lib.Seq.{drop-cons, drop-drop, drop_at, take-suc, take_all, take_at, take-append_seam, length-take-le, set_at, sets, sets-eq, length-sets}
+use lib.Seq.{drop-cons, drop-drop, drop_at, take-suc, take_all, take_at, take-append_seam, length-take-le, set_at}
 use Rattle.std.specs.Int.{to_le_bytes, w32}
 use Rattle.std.proofs.lemmas.Slice.{take-put_mid, drop-put_mid}
 use borrow.Rule.Slice.PartMut.{put_mid}
 use Rattle.laws.proofs.OfTests.{by_test_lem}
 use Rattle.units.specs.Code.{capped}
-use Rattle.input.specs.Words.{little_endian, words_in, word_at, word_bytes, bytes_of, stored_in}
+use Rattle.input.specs.Words.{little_endian, words_in, word_at, word_bytes, bytes_of}
 
 -- ---- one word
 

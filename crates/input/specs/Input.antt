@@ -1,6 +1,6 @@
 -- A card and a pack, one behind the other or each in a file, and what is answered to them: document 01, "What the judge reads", with the
 -- numbers 1 and 2 of "Numbers and what they mean". Every other number is the judge's.
-use Rattle.std.specs.Prelude.{ℕ, suc, ◌*◌, ◌≡◌, Bool, cond, Option, Some, None, Ok, Err, List, [], eqb, length, drop}
+use Rattle.std.specs.Prelude.{ℕ, suc, ◌*◌, ◌≡◌, Bool, cond, Option, Some, None, Err, List, [], eqb, length, drop}
 use Rattle.units.specs.Units.{slots}
 use Rattle.units.specs.declared.Quadwords.{Quadwords}
 use Rattle.checks.specs.declared.Place.TheVariants as place

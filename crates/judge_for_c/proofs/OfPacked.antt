@@ -8,9 +8,7 @@ use borrow.Author.Tests.{lt-ltb}
 use Rattle.bits.specs.Fields.{field_of}
 use Rattle.bits.specs.Tables.{split}
 use Rattle.bits.proofs.OfTables.{split_join, join_lt}
-use Rattle.checks.specs.declared.Verdict.{Verdict}
-use Rattle.checks.specs.declared.Verdict.TheVariants.{Accepted}
-use Rattle.checks.specs.Verdict.{verdict_number, verdict_place, verdict_slot}
+use Rattle.checks.specs.Verdict.{Verdict, Accepted, verdict_number, verdict_place, verdict_slot}
 use Rattle.judge.proofs.OfBounds.{Narrow}
 use Rattle.judge_for_c.specs.Packed.{packed, ReadBack}
 

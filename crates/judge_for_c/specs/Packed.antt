@@ -4,8 +4,7 @@
 use Rattle.std.specs.Prelude.{ℕ, ◌≡◌, [], ◌∷◌}
 use Rattle.bits.specs.Fields.{field_of}
 use Rattle.bits.specs.Tables.{join}
-use Rattle.checks.specs.declared.Verdict.{Verdict}
-use Rattle.checks.specs.Verdict.{verdict_number, verdict_place, verdict_slot}
+use Rattle.checks.specs.Verdict.{Verdict, verdict_number, verdict_place, verdict_slot}
 
 -- a row of fields of 8, 8, 16, 16 and 1 bits, lowest first. A value that its bits don't hold is cut to them: no verdict on a pack has one
 unfoldable pub packed : Verdict → ℕ → ℕ

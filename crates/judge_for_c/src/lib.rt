@@ -19,15 +19,15 @@ pub extern "C" fn zlatomruk_judge(card: &[u8], words: &[u32]) -> u64
     ensures read_back { ReadBack (judgement_of_bytes card.now words.now) 0 result }
     ensures safely_read { result ≡ 0 → SafelyRead card.now words.now }
 {
-    let v = judge::judge_bytes(card, words);
-    packed_number(v, 0)
+    packed_number(judge::judge_bytes(card, words), 0)
 }
 
 // As a row of fields. Every number is a byte; places and slots are cut here, and bounded by the judge's laws.
+#[tactic(auto, unfolding(crate::specs::Packed::packed))]
 pub fn packed_number(v: Verdict, bit: u64) -> u64
     ensures { result ≡ packed v bit }
 {
-    let number = checks::verdict_number(v) as u64;
+    let number = u64::from(checks::verdict_number(v));
     let place = (checks::verdict_place(v) % 0x1_0000) as u64;
     let slot = (checks::verdict_slot(v) % 0x1_0000) as u64;
     number + (place * 0x1_0000 + (slot * 0x1_0000_0000 + bit % 2 * 0x1_0000_0000_0000))

@@ -8,7 +8,7 @@ use Rattle.judge_for_c.proofs.zlatomruk_judge.Goals as goal
 
 pub returns : goal.returns
 returns c =
-    let judged = c.judge_bytes-v.ensures in
+    let judged = c.judge_bytes.ensures in
     let args = c.args in
     let e = c.packed_number.ensures ∙ ap (λ v. packed v 0) judged.value in
     let narrow = bytes_narrow args.card.now args.words.now in

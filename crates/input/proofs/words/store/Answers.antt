@@ -1,6 +1,6 @@
 -- `input::words::store` meets its contract: word by word, the bytes begin with those of the words so far. Assumes nothing.
 use borrow.Author.Rules.{rules}
-use mathlib.Core.Path.{refl, ◌∙◌}
+use mathlib.Core.Path.{refl}
 use native.Mathlib.Omega.{arith}
 use Rattle.input.specs.Words.{bytes_of}
 use Rattle.input.proofs.OfWords.{one_more_stored}
