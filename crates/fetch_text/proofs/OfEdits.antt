@@ -9,7 +9,6 @@ use Rattle.settings.proofs.OfReading.{index_within}
 use Rattle.fetch_codec.specs.declared.Fetch.{Fetch}
 use Rattle.codec_for_c.specs.FetchValues.{fetch_in}
 use Rattle.fetch_text.specs.declared.Fault.{Fault}
-use Rattle.fetch_text.specs.declared.EditError.{EditError}
 use Rattle.fetch_text.specs.declared.EditError.TheVariants.{Wrong}
 use Rattle.fetch_text.specs.Text.{keys_of, values_of}
 use Rattle.fetch_text.specs.Edit.{ends_line, lines_in, fault_read, fault_of, or_later, first_fault, unless}
@@ -167,7 +166,7 @@ module _ {text first row rest : List ℕ} (w : Editing text first row rest) wher
           let f = fetch_in row in
           let g = fetch_in first in
           let put : Changed row after (changed (keys_of f) (values_of f) line) =
-              subst (λ (r : Result ⊤ Fault). OnOk r (Changed row after (changed (keys_of f) (values_of f) line))) q p.put in
+          subst (λ (r : Result ⊤ Fault). OnOk r (Changed row after (changed (keys_of f) (values_of f) line))) q p.put in
           record {
             within = omega (arith, ap length behind_is, length-drop (position_or_len ends_line rest + 1) rest, w.within);
             holds = put.holds;

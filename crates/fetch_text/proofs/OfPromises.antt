@@ -2,7 +2,7 @@
 use mathlib.Core.Path.{◌≡◌, refl, sym, ap, ◌∙◌, subst}
 use mathlib.Core.Bool.{Bool, true, ◌&&◌}
 use mathlib.Core.List.{List, [], ◌∷◌, ◌++◌}
-use Rattle.std.specs.Prelude.{Option, Some, None, Result, Ok, Err, IsOk, IsErrAnd, OnOk, ⊤}
+use Rattle.std.specs.Prelude.{Option, Some, None, Result, Ok, Err, IsErrAnd, OnOk, ⊤}
 use Prim.Native.Nat.{ℕ, zero, suc, ◌+◌, ◌*◌, ◌^◌, ◌≤◌, ◌<◌}
 use native.Mathlib.Omega.{arith}
 use native.Mathlib.Nat.{pow-le-pow_right}
@@ -31,12 +31,12 @@ use Rattle.fetch_codec.specs.declared.Fetch.TheVariants.{Tex, VtxGpr, VtxSem}
 use Rattle.microcode.specs.Answer.{Done}
 use Rattle.microcode.specs.declared.DecodeError.{DecodeError}
 use Rattle.microcode.specs.declared.DecodeError.TheVariants.{Outside, NotTaken}
-use Rattle.microcode.specs.Buffer.{room, write_answer}
+use Rattle.microcode.specs.Buffer.{room}
 use Rattle.fetch_codec.specs.declared.Clause.{Clause}
-use Rattle.fetch_codec.specs.Fetch.{kind_of, form_kind, fetch_of, vertex_of, fields_fit, takes_number, form_taken, encodable}
-use Rattle.fetch_codec.specs.Buffer.{Decoded, four_of, decode_of, encode_answer, encode_words}
+use Rattle.fetch_codec.specs.Fetch.{kind_of, form_kind, fetch_of, fields_fit, takes_number, form_taken, encodable}
+use Rattle.fetch_codec.specs.Buffer.{Decoded, decode_of, encode_answer, encode_words}
 use Rattle.fetch_codec.proofs.RoundTrip.{record_again_at}
-use Rattle.codec_for_c.specs.FetchValues.{fetch_in, fetch_after, fetch_words}
+use Rattle.codec_for_c.specs.FetchValues.{fetch_in, fetch_words}
 use Rattle.codec_for_c.proofs.OfValues.{within_at}
 use Rattle.fetch_text.specs.declared.EditError.{EditError}
 use Rattle.fetch_text.specs.declared.EditError.TheVariants.{NoFetch}
@@ -263,7 +263,7 @@ module _ (clause : Clause) (l : List ℕ) (start : Words) (text : List ℕ) wher
         let h = edited g (lines_in text) in
         let done : encode_answer h l start ≡ Done = rw (can, taken_room clause l start g is) in
         let there : decode_of clause after start ≡ Ok h =
-            ap (λ (x : List ℕ). decode_of clause x start) words ∙ record_again_at h l start done clause (taken_kind clause l start g is ∙ sym (kind_same h g same)) in
+        ap (λ (x : List ℕ). decode_of clause x start) words ∙ record_again_at h l start done clause (taken_kind clause l start g is ∙ sym (kind_same h g same)) in
         record {
           value = sym (ap (λ (d : Decoded). edit_of d text) is ∙ ap unless right);
           words_after =

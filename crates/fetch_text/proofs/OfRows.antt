@@ -1,8 +1,8 @@
 -- Rows of a fetch's values: what stands in them, as the decoder leaves them, and what the encoder says of them. Assumes nothing.
-use mathlib.Core.Path.{◌≡◌, refl, sym, ap, ◌∙◌, subst}
-use mathlib.Core.Bool.{Bool, true, false, ◌&&◌}
+use mathlib.Core.Path.{◌≡◌, refl, sym, ap, ◌∙◌}
+use mathlib.Core.Bool.{true, false, ◌&&◌}
 use mathlib.Core.List.{List, [], ◌∷◌, ◌++◌}
-use Rattle.std.specs.Prelude.{Option, Some, Result, Ok, Err, is_ok, OnOk, ⊤}
+use Rattle.std.specs.Prelude.{Some, Result, Ok, Err, is_ok, ⊤}
 use Prim.Native.Nat.{ℕ, suc, ◌+◌, ◌-◌, ◌^◌, ◌≤◌, ◌<◌}
 use native.Mathlib.Numerals.{add-one}
 use native.Mathlib.Omega.{arith}
@@ -13,7 +13,6 @@ use lib.Seq.{set-append_left, get_or-set_other}
 use borrow.Rule.Slice.PartMut.{mid_of}
 use Rattle.laws.proofs.OfLists.{to_the_end}
 use Rattle.laws.proofs.OfTests.{by_test_lem}
-use Rattle.laws.proofs.OfCases.{impossible}
 use Rattle.ascii.specs.Decimal.{decimal}
 use Rattle.report.specs.Settings.{setting_lines, settings_text}
 use Rattle.bits.specs.Fields.{width_of}
@@ -28,7 +27,7 @@ use Rattle.fetch_codec.specs.declared.Clause.{Clause}
 use Rattle.fetch_codec.specs.Fetch.{encodable}
 use Rattle.fetch_codec.specs.Buffer.{Decoded, decode_of, encode_answer}
 use Rattle.fetch_codec.proofs.RoundTrip.{words_again, done_fits}
-use Rattle.codec_for_c.specs.Values.{form_of, roomy, written, told}
+use Rattle.codec_for_c.specs.Values.{form_of, written, told}
 use Rattle.codec_for_c.specs.FetchValues.{fetch_values, fetch_in, is_fetch, fetch_after, fetch_from}
 use Rattle.codec_for_c.proofs.OfFetches.{fetch_of_values, values_of_fetch}
 use Rattle.settings.specs.Setting.{Is}

@@ -107,7 +107,12 @@ pub fn text_room() -> [u8; 628]
 
 // Writes the fields of the fetch at `start` to the beginning of `out`, a line NAME=number each, and answers how many bytes they have. Where
 // they do not fit, or there is no fetch, `out` stays as it was.
-pub fn write_fetch(clause: Clause, words: &[u32], start: Words, out: &mut [u8]) -> Result<usize, ShowError>
+pub fn write_fetch(
+    clause: Clause,
+    words: &[u32],
+    start: Words,
+    out: &mut [u8],
+) -> Result<usize, ShowError>
     ensures value { result ≡ shown_of (decode_of clause words.now start) out.old }
     ensures out_after { out.new ≡ shown_after (decode_of clause words.now start) out.old }
 {
@@ -117,7 +122,12 @@ pub fn write_fetch(clause: Clause, words: &[u32], start: Words, out: &mut [u8]) 
 
 // Puts settings, a line NAME=number each, into the fetch at `start`. Where one is wrong, or there is no fetch, all words stay. What was
 // edited decodes to the edited fetch, and the text of a fetch makes any other of its form that fetch.
-pub fn edit_fetch(clause: Clause, words: &mut [u32], start: Words, settings: &[u8]) -> Result<(), EditError>
+pub fn edit_fetch(
+    clause: Clause,
+    words: &mut [u32],
+    start: Words,
+    settings: &[u8],
+) -> Result<(), EditError>
     ensures value { result ≡ edit_of (decode_of clause words.old start) settings.now }
     ensures words_after { words.new ≡ edited_words (decode_of clause words.old start) settings.now words.old start }
     ensures promised { Promised clause words.old words.new settings.now start result }

@@ -1,6 +1,5 @@
 -- A line more is put into the row, or it is wrong.
-use Rattle.std.proofs.Common.{arith, ap, length, length-drop}
-use Rattle.fetch_text.proofs.OfEdits.{some_left, none_left, none_put, all_put, line_wrong, line_put, line_shorter}
+use Rattle.fetch_text.proofs.OfEdits.{some_left, none_left, all_put, line_wrong, line_put, line_shorter}
 use Rattle.fetch_text.proofs.rows.edit_row.Goals as goal
 
 pub returns-in-Err : goal.returns-in-Err
