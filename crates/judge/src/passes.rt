@@ -32,10 +32,11 @@ pub(crate) struct Section<'a> {
     ghost quads_marked: { card.quads.0 ≤ marked_in words.now },
 }
 
+// By value: behind a reference each pair would read the section anew, since the rows that are written might be it.
 impl<'a> Section<'a> {
     // Both passes.
-    pub(crate) fn verdict(&self) -> Verdict
-        ensures { result ≡ first_broken (passes self.now.card self.now.words.now self.now.end.0) }
+    pub(crate) fn verdict(self) -> Verdict
+        ensures { result ≡ first_broken (passes self.entry.card self.entry.words.now self.entry.end.0) }
     {
         if self.end < Quadwords(SHORT) {
             return self.verdict_with_room::<SHORT>();
@@ -44,28 +45,28 @@ impl<'a> Section<'a> {
     }
 
     // The same, with a row for each of so many places.
-    fn verdict_with_room<const PLACES: usize>(&self) -> Verdict
-        requires room { self.now.end.0 < PLACES }
+    fn verdict_with_room<const PLACES: usize>(self) -> Verdict
+        requires room { self.end.0 < PLACES }
         requires few { PLACES ≤ 512 }
-        ensures { result ≡ first_broken (passes self.now.card self.now.words.now self.now.end.0) }
+        ensures { result ≡ first_broken (passes self.entry.card self.entry.words.now self.entry.end.0) }
     {
         let mut rows = [Row::EMPTY; PLACES];
         self.verdict_with(&mut rows)
     }
 
-    fn verdict_with(&self, rows: &mut [Row]) -> Verdict
-        requires { self.now.end.0 < length rows.old }
-        ensures { result ≡ first_broken (passes self.now.card self.now.words.now self.now.end.0) }
+    fn verdict_with(self, rows: &mut [Row]) -> Verdict
+        requires { self.end.0 < length rows.old }
+        ensures { result ≡ first_broken (passes self.entry.card self.entry.words.now self.entry.end.0) }
     {
         self.first_pass(&mut rows[..])?;
         walk::second_pass(self.words, units::quadword_behind(self.end), &rows[..])
     }
 
     // Rules 4 to 17 and 22, places rising. The rows of all places are left for the second pass.
-    fn first_pass(&self, rows: &mut [Row]) -> Verdict
-        requires { self.now.end.0 < length rows.old }
-        ensures value { result ≡ first_broken (below (first_checks self.now.card self.now.words.now self.now.end.0) (suc self.now.end.0)) }
-        ensures recorded { result ≡ Accepted → Recorded (flow_at self.now.words.now) (suc self.now.end.0) rows.new }
+    fn first_pass(self, rows: &mut [Row]) -> Verdict
+        requires { self.end.0 < length rows.old }
+        ensures value { result ≡ first_broken (below (first_checks self.entry.card self.entry.words.now self.entry.end.0) (suc self.entry.end.0)) }
+        ensures recorded { result ≡ Accepted → Recorded (flow_at self.entry.words.now) (suc self.entry.end.0) rows.new }
     {
         let mut s = Frames {
             row: Row::EMPTY,
@@ -73,7 +74,7 @@ impl<'a> Section<'a> {
         };
         let mut seen = apart::none_seen();
         for p in 0..self.end.0 + 1 {
-            let pair = Pair::read(self, Quadwords(p));
+            let pair = Pair::read(&self, Quadwords(p));
             seen = apart::seen_with(self.words, self.end, seen, pair.clause);
             let ahead = pair.pass(seen, s, &rows[..])?;
             rows[p] = s.row;

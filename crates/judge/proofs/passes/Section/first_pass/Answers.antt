@@ -31,18 +31,18 @@ module _ (section : Section) (p : ℕ) (pair : Pair) (of_section : pair.section.
 
 pub loop-p-init : goal.loop-p-init
 loop-p-init c =
-    let s = c.args.self.now in
+    let s = c.args.self in
     (standing_first s.card s.words.now s.end.0 c.args.rows.now c.requires,
     subst (SeenBefore s.words.now s.end.0 0) (sym c.none_seen-seen.ensures) (seen_first s.words.now s.end.0))
 
 pub pass-requires-clause-standing : goal.pass-requires-clause-standing
 pass-requires-clause-standing c =
-    there c.args.self.now c.loop-p.p c.read-pair.result c.read-pair.ensures.of_section c.read-pair.ensures.at_place
+    there c.args.self c.loop-p.p c.read-pair.result c.read-pair.ensures.of_section c.read-pair.ensures.at_place
     (λ x q. Standing x.card x.words.now x.end.0 q.0 c.loop-p.s c.loop-p.rows) c.loop-p.invariant.0
 
 pub pass-requires-clause-layout_told : goal.pass-requires-clause-layout_told
 pass-requires-clause-layout_told c =
-    let s = c.args.self.now in
+    let s = c.args.self in
     let in_section : c.loop-p.p ≤ s.end.0 = omega (arith, c.loop-p-test.true) in
     let seen = with_clause s c.loop-p.p c.read-pair.result c.read-pair.ensures.of_section c.read-pair.ensures.at_place s.end.0 c.loop-p.seen c.seen_with-seen.result c.seen_with-seen.ensures in
     there s c.loop-p.p c.read-pair.result c.read-pair.ensures.of_section c.read-pair.ensures.at_place
@@ -51,7 +51,7 @@ pass-requires-clause-layout_told c =
 
 pub returns-in_err-ahead-clause-value : goal.returns-in_err-ahead-clause-value
 returns-in_err-ahead-clause-value c =
-    let s = c.args.self.now in
+    let s = c.args.self in
     let in_section : c.loop-p.p ≤ s.end.0 = omega (arith, c.loop-p-test.true) in
     let passed_on : c.from_residual.result ≡ Err c.in_err-ahead.field-0.0 = search rules in
     let found =
@@ -62,7 +62,7 @@ returns-in_err-ahead-clause-value c =
 
 pub loop-p-preserved : goal.loop-p-preserved
 loop-p-preserved c =
-    let s = c.args.self.now in
+    let s = c.args.self in
     let in_section : c.loop-p.p ≤ s.end.0 = omega (arith, c.loop-p-test.true) in
     let found =
         here s c.loop-p.p c.read-pair.result c.read-pair.ensures.of_section c.read-pair.ensures.at_place
@@ -74,10 +74,10 @@ loop-p-preserved c =
 
 pub returns-clause-value : goal.returns-clause-value
 returns-clause-value c =
-    let s = c.args.self.now in
+    let s = c.args.self in
     sym (passes_all s.card s.words.now s.end.0 c.loop-p.s c.loop-p.rows c.loop-p.p (omega (arith, c.loop-p-test.false)) c.loop-p.invariant.0).0
 
 pub returns-clause-recorded : goal.returns-clause-recorded
 returns-clause-recorded c =
-    let s = c.args.self.now in
+    let s = c.args.self in
     λ accepted. (passes_all s.card s.words.now s.end.0 c.loop-p.s c.loop-p.rows c.loop-p.p (omega (arith, c.loop-p-test.false)) c.loop-p.invariant.0).1
