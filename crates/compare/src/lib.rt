@@ -41,7 +41,7 @@ fn common_beginning(older: &[u32], newer: &[u32]) -> usize
     older.iter().zip(newer).take_while(|(a, b)| a == b).count()
 }
 
-// How many words the two have in common at their ends.
+// How many words the two have in common at their ends. The two counts stay apart: a function over any two iterators is longer than both.
 fn common_ending(older: &[u32], newer: &[u32]) -> usize
     ensures value { result ≡ in_common (reverse older.now) (reverse newer.now) }
     ensures in_older { result ≤ length older.now }

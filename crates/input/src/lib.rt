@@ -50,7 +50,7 @@ pub fn judge_input(input: &[u8]) -> Judged
 }
 
 // Judges a card's file and a pack's. Bytes behind the card's last line are refused as a line more; for a file of all its lines and
-// nothing else the answer is that to the two files one behind the other.
+// nothing else the answer is that to the two files one behind the other. (One match for both functions would have to ask which it is.)
 pub fn judge_files(text: &[u8], pack: &[u8]) -> Judged
     ensures value { result ≡ judged_of_files text.now pack.now }
     ensures value_2 { AllLines text.now → result ≡ judged_of (text.now ++ pack.now) }

@@ -1,12 +1,12 @@
 // A pack's bytes as words, and words as its bytes.
-ghost use Rattle.std.specs.Prelude.{◌≡◌, ◌++◌, ℕ, ◌+◌, ◌/◌, ◌%◌, ◌<◌, ◌≤◌, min, length, take, drop, get_or};
-ghost use Rattle.std.proofs.lemmas.List.Edits.{sets};
+ghost use Rattle.std.specs.Prelude.{◌≡◌, ◌++◌, ℕ, ◌+◌, ◌/◌, ◌≤◌, min, length, take, drop, get_or};
 ghost use Rattle.units.specs.Code.{capped};
-ghost use Rattle.input.specs.Words.{words_in, word_at, word_bytes, stored_in};
+ghost use Rattle.input.specs.Words.{words_in, word_at, stored_in};
 
 use units::Words;
 
-// Puts the words of `bytes` at the start of `words`, as many as have room there, and answers how many they are.
+// Puts the words of `bytes` at the start of `words`, as many as have room there, and answers how many they are. They are put by their
+// numbers: of what was written through `iter_mut` a proof knows no element.
 pub fn load(bytes: &[u8], words: &mut [u32]) -> usize
     ensures value { result ≡ min (length bytes.now / 4) (length words.old) }
     ensures words_after { words.new ≡ take result (words_in bytes.now) ++ drop result words.old }

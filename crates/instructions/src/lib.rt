@@ -4,7 +4,7 @@
 // shares the shifts and masks. Nothing branches on what a pack holds, since no branch could be foreseen: tests are joined by | and &.
 #![tactic(auto)]
 
-ghost use Rattle.std.specs.Prelude.{◌≡◌, cond};
+ghost use Rattle.std.specs.Prelude.{◌≡◌};
 ghost use Rattle.grants.specs.Grants.{all_granted};
 ghost use Rattle.instructions.specs.Instruction as instruction;
 ghost use Rattle.opcodes.specs.Code.{code_of};
@@ -50,13 +50,6 @@ pub fn class_code(high: u32) -> u32
     opcodes::alu::class_code(read(high, fields::OP2_INST))
 }
 
-// The one or the other.
-fn chosen(first: bool, a: u32, b: u32) -> u32
-    ensures { result ≡ cond first a b }
-{
-    if first { a } else { b }
-}
-
 // The word that has a third source where ALU_WORD1_OP3 has its own: an OP2's is its first source once more, of which nothing more is asked.
 pub fn third_word(low: u32, high: u32) -> u32
     ensures { result ≡ third_word low high }
@@ -82,9 +75,9 @@ fn third_source(high: u32) -> Source
     let op3 = is_op3(high);
     let third = read_source(high, fields::SRC2_SEL, fields::SRC2_REL, fields::SRC2_CHAN);
     Source {
-        sel: chosen(op3, third.sel, 248),
-        rel: chosen(op3, third.rel, 0),
-        chan: chosen(op3, third.chan, 0),
+        sel: if op3 { third.sel } else { 248 },
+        rel: if op3 { third.rel } else { 0 },
+        chan: if op3 { third.chan } else { 0 },
     }
 }
 
