@@ -58,8 +58,8 @@ impl<'a> Section<'a> {
         requires { self.end.0 < length rows.old }
         ensures { result ≡ first_broken (passes self.entry.card self.entry.words.now self.entry.end.0) }
     {
-        self.first_pass(&mut rows[..])?;
-        walk::second_pass(self.words, units::quadword_behind(self.end), &rows[..])
+        self.first_pass(rows)?;
+        walk::second_pass(self.words, units::quadword_behind(self.end), rows)
     }
 
     // Rules 4 to 17 and 22, places rising. The rows of all places are left for the second pass.
@@ -76,7 +76,7 @@ impl<'a> Section<'a> {
         for p in 0..self.end.0 + 1 {
             let pair = Pair::read(&self, Quadwords(p));
             seen = apart::seen_with(self.words, self.end, seen, pair.clause);
-            let ahead = pair.pass(seen, s, &rows[..])?;
+            let ahead = pair.pass(seen, s, rows)?;
             rows[p] = s.row;
             s = ahead;
         }
