@@ -1,22 +1,20 @@
 -- An explanation is true, and what it is made of is what the code reads. Assumes nothing.
 use Prim.Native.Nat.{ℕ, suc}
 use mathlib.Core.Path.{◌≡◌, refl, sym, ap, subst, ◌∙◌}
-use mathlib.Core.Bool.{Bool, true, false, cond, not, ◌&&◌, ◌||◌}
+use mathlib.Core.Bool.{Bool, true, false, cond}
 use mathlib.Core.List.{List}
-use lib.Dec.{eqb}
 use lib.ListN.{length, drop}
 use Rattle.std.specs.Prelude.{Option, Some, None, Err}
 use borrow.Author.Tests.{not-true, eq-eqb, ne_eqb}
 use Rattle.laws.proofs.OfCases.{impossible}
-use Rattle.units.specs.declared.Quadwords.{Quadwords}
 use Rattle.units.specs.declared.Slots.{Slots}
 use Rattle.checks.specs.declared.Explanation.{Explanation}
 use Rattle.checks.specs.declared.Place.{Place}
 use Rattle.checks.specs.declared.Place.TheVariants as place
-use Rattle.checks.specs.Verdict.{Verdict, Accepted, Refused}
+use Rattle.checks.specs.Verdict.{Verdict, Refused}
 use Rattle.card.specs.declared.Card.{Card}
 use Rattle.card.specs.declared.BadLine.{BadLine}
-use Rattle.card.specs.Card.{CardRead, Whole, BadAt, card_lines, card_of}
+use Rattle.card.specs.Card.{CardRead, Whole, card_lines, card_of}
 use Rattle.card.specs.Made.{CardTest, InRange, test_of}
 use Rattle.card.proofs.OfCard.{whole_in_range}
 use Rattle.grants.specs.Grants.{all_granted}

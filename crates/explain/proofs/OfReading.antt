@@ -26,13 +26,13 @@ use Rattle.explain.specs.Lines.{lines_of_input, lines_of_files}
 pack_cut :
     (card : Card) → test_of card ≡ InRange → (pack : List ℕ) (all : ℕ) → 65537 ≤ all
     → explained card (words_in (take all pack)) (pack_verdict card pack) ≡ explained card (words_in pack) (pack_verdict card pack)
-pack_cut card in_range pack all h = by (ltb all (length pack)) refl
+pack_cut card ranged pack all h = by (ltb all (length pack)) refl
   where
     by : (x : Bool) → ltb all (length pack) ≡ x
         → explained card (words_in (take all pack)) (pack_verdict card pack) ≡ explained card (words_in pack) (pack_verdict card pack)
     by true l =
         let w = ltb-true all (length pack) l in
-        let long : bad_length ≡ pack_verdict card pack = too_long card in_range pack (omega (arith, w, h)) in
+        let long : bad_length ≡ pack_verdict card pack = too_long card ranged pack (omega (arith, w, h)) in
         ap (explained card (words_in (take all pack))) (sym long) ∙ ap (explained card (words_in pack)) long
     by false l = ap (λ (p : List ℕ). explained card (words_in p) (pack_verdict card pack)) (take_all all pack (ltb-false all (length pack) l))
 
@@ -76,8 +76,8 @@ module _ (text pack : List ℕ) where
           (card : Card) → test_of card ≡ InRange → (t : Bool)
           → explained card (words_in (take all pack)) (cond t (judged_by card pack) (without_card (suc card_lines))).verdict
           ≡ explained card (words_in pack) (cond t (judged_by card pack) (without_card (suc card_lines))).verdict
-      by_end card in_range true = pack_cut card in_range pack all h
-      by_end card in_range false = refl
+      by_end card ranged true = pack_cut card ranged pack all h
+      by_end card ranged false = refl
 
       by : (known : CardRead) → card_of text ≡ known
           → by_read known (words_in (take all pack)) (beside_card text pack known).verdict ≡ by_read known (words_in pack) (beside_card text pack known).verdict

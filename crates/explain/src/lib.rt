@@ -72,11 +72,7 @@ pub fn write_input_explanation(input: &[u8], out: &mut [u8]) -> Result<usize, To
 
 // The same for a card's file and a pack's.
 #[tactic(auto, unfolding(crate::specs::Lines::lines_of_files))]
-pub fn write_files_explanation(
-    text: &[u8],
-    pack: &[u8],
-    out: &mut [u8],
-) -> Result<usize, TooSmall>
+pub fn write_files_explanation(text: &[u8], pack: &[u8], out: &mut [u8]) -> Result<usize, TooSmall>
     ensures value { result ≡ written_of (lines_of_files text.now pack.now) out.old }
     ensures out_after { out.new ≡ buffer_after (lines_of_files text.now pack.now) out.old }
 {
