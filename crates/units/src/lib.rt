@@ -7,7 +7,7 @@
 // as the true count would. No ADDR of 32 bits comes near that (proofs/OfUnits.antt).
 #![tactic(auto)]
 
-ghost use Rattle.std.specs.Prelude.{◌≡◌, ◌+◌, min};
+ghost use Rattle.std.specs.Prelude.{◌≡◌};
 ghost use Rattle.units.specs.Units as count;
 ghost use Rattle.units.specs.Code.{capped, quadwords_in_64, slots_in_64, words_in_64};
 
@@ -142,29 +142,4 @@ pub fn quadword_before(q: Quadwords) -> Quadwords
     ensures { result ≡ count.quadword_before q }
 {
     Quadwords(q.0.saturating_sub(1))
-}
-
-// Transitional: callers go over to `<`, `<=` and `min`.
-pub fn is_below(a: Quadwords, b: Quadwords) -> bool
-    ensures { result ≡ count.is_below a b }
-{
-    a < b
-}
-
-pub fn is_at_most(a: Quadwords, b: Quadwords) -> bool
-    ensures { result ≡ count.is_at_most a b }
-{
-    a <= b
-}
-
-pub fn is_slot_below(a: Slots, b: Slots) -> bool
-    ensures { result ≡ count.is_slot_below a b }
-{
-    a < b
-}
-
-pub fn smaller(a: usize, b: usize) -> usize
-    ensures { result ≡ min a b }
-{
-    a.min(b)
 }
