@@ -5,3 +5,4 @@ pub mod OfValues
 pub mod OfFetches
 pub mod OfCodec
 pub mod OfFetchCodec
+pub mod Examples
