@@ -17,6 +17,7 @@ use units::Quadwords;
 
 // What is known of the clauses that are opened so far. As long as each lies behind those before it, or is the highest once more: the quadword
 // behind them all, and where the highest starts. Then the first place of the section whose clause is not apart from those before it.
+// (Two states that each know something: an Option would take the one for the lack of the other.)
 #[derive(Clone, Copy, Debug, PartialEq, Eq)]
 pub enum Seen {
     Rising {

@@ -49,7 +49,7 @@ pub fn explain_input(input: &[u8]) -> Explanation
     }
 }
 
-// The same of a card's file and a pack's.
+// The same of a card's file and a pack's. (Where card and pack lie is all that the two say, so that one of both would be no shorter.)
 pub fn explain_files(text: &[u8], pack: &[u8]) -> Explanation
     ensures value { result ≡ define.explanation_of_files text.now pack.now }
     ensures explains_files { ExplainsFiles text.now pack.now result }
@@ -70,7 +70,7 @@ pub fn write_input_explanation(input: &[u8], out: &mut [u8]) -> Result<usize, To
     report::write_explanation(explain_input(input), out)
 }
 
-// The same for a card's file and a pack's.
+// The same for a card's file and a pack's. (Each is one line: a closure in their place would be no plainer.)
 #[tactic(auto, unfolding(crate::specs::Lines::lines_of_files))]
 pub fn write_files_explanation(text: &[u8], pack: &[u8], out: &mut [u8]) -> Result<usize, TooSmall>
     ensures value { result ≡ written_of (lines_of_files text.now pack.now) out.old }
