@@ -32,7 +32,8 @@ impl fmt::Display for Tool {
     }
 }
 
-// Reads standard input until it ends or the room is full, and answers how many bytes then stand in the room. What fails is told.
+// Reads standard input until it ends or the room is full, and answers how many bytes then stand in the room. What fails is told. A count and not
+// the part of the room: `ReadFrom` says what the room holds after a failure, too, which no clause can of a slice that is lent on.
 pub fn read_input<R: Read, E: Write>(
     input: &mut R,
     errors: &mut E,

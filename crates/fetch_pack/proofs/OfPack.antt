@@ -241,23 +241,6 @@ module _ {clause : Clause} {pack bytes text : List ℕ} {start : Words} {r : Res
         words = λ x q. subst (λ (x : Result ⊤ EditError). Promised clause (words_in pack) (words_in bytes) text start x) (told_of r x q) e.promised;
       }
 
--- ---- what is promised of the words
-
-module _ (clause : Clause) (before text : List ℕ) (start : Words) where
-  pub not_is_long : PackPromised clause before before text start (Err TooLong)
-  not_is_long = record { others = all_stay before start; words = λ e q. by e q }
-    where
-      by : (e : Result ⊤ EditError) → Err TooLong ≡ on_words e → Promised clause (words_in before) (words_in before) text start e
-      by (Ok t) q = impossible cc
-      by (Err why) q = impossible cc
-
-  pub not_is_partial : PackPromised clause before before text start (Err NotWhole)
-  not_is_partial = record { others = all_stay before start; words = λ e q. by e q }
-    where
-      by : (e : Result ⊤ EditError) → Err NotWhole ≡ on_words e → Promised clause (words_in before) (words_in before) text start e
-      by (Ok t) q = impossible cc
-      by (Err why) q = impossible cc
-
 -- every pack that a card allows is taken
 pub any_pack_taken : (quads : ℕ) → quads_allowed quads ≡ true → quads * 8 ≤ 65536
 any_pack_taken quads h = let k = leb-true quads 8192 (both (leb 1 quads) (leb quads 8192) h).1 in omega arith
