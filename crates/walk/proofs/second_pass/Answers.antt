@@ -1,5 +1,5 @@
 -- `walk::second_pass` meets its contract. Assumes nothing.
-use Rattle.std.proofs.Common.{ℕ, List, Err, sym, ◌∙◌, ap, add-one, arith, rules, ◌≡◌, ◌-◌}
+use Rattle.std.proofs.Common.{ℕ, List, Err, sym, ◌∙◌, ap, add-one, arith, rules, ◌≡◌}
 use Rattle.units.specs.declared.Quadwords.{Quadwords}
 use Rattle.checks.specs.Checks.{Check, first_broken}
 use Rattle.checks.proofs.OfChecks.{below_none, below_next, below_found}
