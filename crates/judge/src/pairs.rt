@@ -125,21 +125,33 @@ impl<'s, 'w> Pair<'s, 'w> {
         let Section { card, words, .. } = *self.section;
         match self.clause {
             None => Ok(()),
-            Some(Clause::Alu {
-                start,
-                slots,
-                push_before,
-                mode0,
-                mode1,
-            }) => {
+            Some(
+                Clause::Alu {
+                    start,
+                    slots,
+                    push_before,
+                    mode0,
+                    mode1,
+                },
+            ) => {
                 let limits = limits_with(card, mode0, mode1);
-                clauses::alu_clause(words, self.place, start, slots, push_before, card.kind, limits)
+                clauses::alu_clause(
+                    words,
+                    self.place,
+                    start,
+                    slots,
+                    push_before,
+                    card.kind,
+                    limits,
+                )
             }
-            Some(Clause::Fetch {
-                start,
-                fetches,
-                kind,
-            }) => {
+            Some(
+                Clause::Fetch {
+                    start,
+                    fetches,
+                    kind,
+                },
+            ) => {
                 let limits = limits_with(card, 0, 0);
                 fetches::fetch_clause(words, self.place, start, fetches, kind, limits)
             }

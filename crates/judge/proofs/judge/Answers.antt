@@ -47,8 +47,8 @@ returns c =
     let asked : false ≡ leb c.searched_pairs.result.0 c.find_end-end.result.0 = search rules in
     let one = no_end_is a.words.now c.searched_pairs.ensures c.find_end-end.ensures asked in
     let value =
-        c.verdict.ensures
-        ∙ ap (λ (x : Quadwords). first_broken (passes a.card a.words.now x.0)) c.find_end-end.ensures
-        ∙ sym (by-passes a.card a.words.now (sym c.check_card.ensures ∙ c.in_default.is) (sym c.is_bad_length.ensures ∙ c.if-is_bad_length.false) one)
+    c.verdict.ensures
+    ∙ ap (λ (x : Quadwords). first_broken (passes a.card a.words.now x.0)) c.find_end-end.ensures
+    ∙ sym (by-passes a.card a.words.now (sym c.check_card.ensures ∙ c.in_default.is) (sym c.is_bad_length.ensures ∙ c.if-is_bad_length.false) one)
     in
     record { value = value; safely = λ accepted. accepted_safely a.card a.words.now (sym value ∙ accepted) }

@@ -1,5 +1,5 @@
 -- `judge::passes::Section::first_pass` meets its contract. Assumes nothing.
-use Rattle.std.proofs.Common.{ℕ, Option, Ok, Err, sym, ap, subst, ◌∙◌, add-one, arith, rules, ◌≡◌, ◌<◌, ◌≤◌}
+use Rattle.std.proofs.Common.{ℕ, Option, Ok, Err, sym, subst, ◌∙◌, add-one, arith, rules, ◌≡◌, ◌≤◌}
 use Rattle.units.specs.declared.Quadwords.{Quadwords}
 use Rattle.units.specs.Units.{quadwords}
 use Rattle.checks.specs.Checks.{first_broken}
@@ -31,9 +31,10 @@ module _ (section : Section) (p : ℕ) (pair : Pair) (of_section : pair.section.
 
 pub loop-p-init : goal.loop-p-init
 loop-p-init c =
-    let s = c.args.self in
-    (standing_first s.card s.words.now s.end.0 c.args.rows.now c.requires,
-    subst (SeenBefore s.words.now s.end.0 0) (sym c.none_seen-seen.ensures) (seen_first s.words.now s.end.0))
+    let s = c.args.self in (
+      standing_first s.card s.words.now s.end.0 c.args.rows.now c.requires,
+      subst (SeenBefore s.words.now s.end.0 0) (sym c.none_seen-seen.ensures) (seen_first s.words.now s.end.0),
+    )
 
 pub pass-requires-clause-standing : goal.pass-requires-clause-standing
 pass-requires-clause-standing c =
@@ -55,8 +56,8 @@ returns-in_err-ahead-clause-value c =
     let in_section : c.loop-p.p ≤ s.end.0 = omega (arith, c.loop-p-test.true) in
     let passed_on : c.from_residual.result ≡ Err c.in_err-ahead.field-0.0 = search rules in
     let found =
-        here s c.loop-p.p c.read-pair.result c.read-pair.ensures.of_section c.read-pair.ensures.at_place
-        (λ x q. first_broken (first_checks x.card x.words.now x.end.0 q.0) ≡ Err c.in_err-ahead.field-0.0) c.in_err-ahead.ensures
+    here s c.loop-p.p c.read-pair.result c.read-pair.ensures.of_section c.read-pair.ensures.at_place
+    (λ x q. first_broken (first_checks x.card x.words.now x.end.0 q.0) ≡ Err c.in_err-ahead.field-0.0) c.in_err-ahead.ensures
     in
     passed_on ∙ sym (stops s.card s.words.now s.end.0 c.loop-p.p c.loop-p.s c.loop-p.rows c.loop-p.invariant.0 in_section found)
 
@@ -65,12 +66,13 @@ loop-p-preserved c =
     let s = c.args.self in
     let in_section : c.loop-p.p ≤ s.end.0 = omega (arith, c.loop-p-test.true) in
     let found =
-        here s c.loop-p.p c.read-pair.result c.read-pair.ensures.of_section c.read-pair.ensures.at_place
-        (λ x q. Found x.card x.words.now x.end.0 q.0 (Ok c.in_ok-ahead.ahead)) c.in_ok-ahead.ensures
+    here s c.loop-p.p c.read-pair.result c.read-pair.ensures.of_section c.read-pair.ensures.at_place
+    (λ x q. Found x.card x.words.now x.end.0 q.0 (Ok c.in_ok-ahead.ahead)) c.in_ok-ahead.ensures
     in
-    let seen = with_clause s c.loop-p.p c.read-pair.result c.read-pair.ensures.of_section c.read-pair.ensures.at_place s.end.0 c.loop-p.seen c.seen_with-seen.result c.seen_with-seen.ensures in
-    (rw add-one (standing_next s.card s.words.now s.end.0 c.loop-p.p c.loop-p.s c.loop-p.rows c.loop-p.invariant.0 in_section c.in_ok-ahead.ahead found),
-    rw add-one (seen_next s.words.now s.end.0 c.loop-p.p c.loop-p.seen c.seen_with-seen.result c.loop-p.invariant.1 seen))
+    let seen = with_clause s c.loop-p.p c.read-pair.result c.read-pair.ensures.of_section c.read-pair.ensures.at_place s.end.0 c.loop-p.seen c.seen_with-seen.result c.seen_with-seen.ensures in (
+      rw add-one (standing_next s.card s.words.now s.end.0 c.loop-p.p c.loop-p.s c.loop-p.rows c.loop-p.invariant.0 in_section c.in_ok-ahead.ahead found),
+      rw add-one (seen_next s.words.now s.end.0 c.loop-p.p c.loop-p.seen c.seen_with-seen.result c.loop-p.invariant.1 seen),
+    )
 
 pub returns-clause-value : goal.returns-clause-value
 returns-clause-value c =

@@ -1,5 +1,5 @@
 -- `judge::passes::Section::verdict_with` meets its contract: the first pass, and where it is clean the second. Assumes nothing.
-use Rattle.std.proofs.Common.{suc, Err, refl, sym, ◌∙◌, add-one, arith, rules, ◌≡◌}
+use Rattle.std.proofs.Common.{Err, refl, sym, ◌∙◌, add-one, arith, rules, ◌≡◌}
 use Rattle.units.proofs.OfUnits.{behind_exact}
 use Rattle.judge.proofs.OfPass.{first_refused, then_second}
 use Rattle.judge.proofs.passes.Section.verdict_with.Goals as goal
