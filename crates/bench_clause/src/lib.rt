@@ -48,6 +48,7 @@ pub extern "C" fn zlatomruk_alu_clause(
     ))
 }
 
+// By its number, since bench/ calls as C does.
 #[tactic(auto, unfolding(crate::specs::Call::kind_of))]
 fn kind_of(number: u32) -> Kind
     ensures { result ≡ kind_of number }

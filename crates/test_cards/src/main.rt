@@ -101,7 +101,8 @@ fn run(out: &impl Print, cases: &[u8]) -> io::Result<()> {
     Ok(())
 }
 
-// Reads until the input ends or the room is full, and answers how many bytes stand in the room.
+// Reads until the input ends or the room is full, and answers how many bytes stand in the room. A turn reads as many as the input gives, so the
+// count is the input's to move, and no iterator's.
 fn read_full(input: &mut impl Read, room: &mut [u8]) -> io::Result<usize>
     ensures { IfOk result (λ n. n ≤ length room.new) }
 {

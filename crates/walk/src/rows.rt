@@ -4,7 +4,8 @@ ghost use Rattle.walk.specs.CodeRows.{row_at, same_row, row_carries};
 
 use units::Quadwords;
 
-// A stack in two numbers: `marks` frames M over the frame of the loop that starts before `top`, over nothing where `top` is 0.
+// A stack in two numbers: `marks` frames M over the frame of the loop that starts before `top`, over nothing where `top` is 0. That is no Option:
+// a loop is numbered from 1 on so, and the definitions have a row as two numbers (specs/CodeRows.antt).
 #[derive(Clone, Copy, Debug, PartialEq, Eq)]
 pub struct Row {
     pub top: Quadwords,
