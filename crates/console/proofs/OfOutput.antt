@@ -29,8 +29,7 @@ made {bytes} {before} {after} {n} is e h =
   where
     by : (t : Bool) → Ok n ≡ written_by t bytes → after ≡ after_by t bytes before → (n ≤ length after) × (take n after ≡ cond t bytes [])
     by true e h =
-        let same : n ≡ length bytes = cc in
-        (
+        let same : n ≡ length bytes = cc in (
           omega (arith, ap length h, length-append bytes (drop (length bytes) before)),
           rw (h, same) (take-append_seam bytes (drop (length bytes) before)),
         )

@@ -13,6 +13,7 @@ use std::io::Write;
 // What is answered: its bytes; and who says, and how, that they could not be written.
 pub trait Answer {
     const TOOL: Tool;
+
     const LOST: &'static str;
 
     ghost bytes: { Self → List ℕ };
@@ -47,6 +48,7 @@ pub struct ExplanationOfFiles<'a> {
 
 impl Answer for ReportOn<'_> {
     const TOOL: Tool = Tool::Judge;
+
     const LOST: &'static str = "the report was not written";
 
     ghost bytes = { λ it. report_of it.0.now };
@@ -58,6 +60,7 @@ impl Answer for ReportOn<'_> {
 
 impl Answer for ReportOnFiles<'_> {
     const TOOL: Tool = Tool::Judge;
+
     const LOST: &'static str = "the report was not written";
 
     ghost bytes = { λ it. report_of_files it.card.now it.pack.now };
@@ -69,6 +72,7 @@ impl Answer for ReportOnFiles<'_> {
 
 impl Answer for ExplanationOf<'_> {
     const TOOL: Tool = Tool::Explain;
+
     const LOST: &'static str = "the explanation was not written";
 
     ghost bytes = { λ it. lines_of_input it.0.now };
@@ -80,6 +84,7 @@ impl Answer for ExplanationOf<'_> {
 
 impl Answer for ExplanationOfFiles<'_> {
     const TOOL: Tool = Tool::Explain;
+
     const LOST: &'static str = "the explanation was not written";
 
     ghost bytes = { λ it. lines_of_files it.card.now it.pack.now };

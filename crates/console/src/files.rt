@@ -6,11 +6,10 @@ ghost use Rattle.console.specs.Tools.{tool_name};
 ghost use Rattle.console.specs.Files.{GaveSome, ReadFrom, IsSilent};
 
 use std::env::FillError;
-use std::fmt;
 use std::fmt::InlineText;
 use std::io::{Error, ErrorKind, Read, Write};
 use std::rt::{Env, Files};
-use std::{fs, io, str};
+use std::{fmt, fs, io, str};
 
 // The program that reads, as its messages name it.
 #[derive(Clone, Copy)]

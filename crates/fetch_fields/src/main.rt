@@ -24,7 +24,10 @@ fn main(rt: HostRuntime) {
         return;
     }
     let mut room = console::room::<PACK>();
-    let mut teller = Teller { rt: &rt, errors: &mut errors };
+    let mut teller = Teller {
+        rt: &rt,
+        errors: &mut errors,
+    };
     let Some(clause) = arguments::asked_clause(&rt) else {
         teller.tell("no kind of fetch: ", 1, "");
         return;
@@ -73,7 +76,9 @@ fn edit<R: Env + Print, E: Write>(
     // Room for more settings than a fetch has fields, several times over.
     let mut room = [0u8; 16384];
     let Some(settings) = arguments::gather(teller.rt, &mut room) else {
-        let _ = teller.errors.write_all(b"fetch: the settings are too long\n");
+        let _ = teller
+            .errors
+            .write_all(b"fetch: the settings are too long\n");
         return;
     };
     match fetch_pack::edit_fetch(clause, pack, start, settings) {

@@ -61,6 +61,8 @@ impl<R: Env, E: Write> Teller<'_, R, E> {
 
     fn say_argument(&mut self, i: usize) {
         let mut room = [0u8; 4096];
-        let _ = self.errors.write_all(arguments::argument(self.rt, i, &mut room));
+        let _ = self
+            .errors
+            .write_all(arguments::argument(self.rt, i, &mut room));
     }
 }

@@ -35,7 +35,12 @@ impl<E> From<E> for PackError<E> {
 
 // Writes the fields of the fetch at word `start` to the beginning of `out`, and answers how many bytes they have; where there is none, or they
 // do not fit, `out` stays as it was.
-pub fn show_fetch(clause: Clause, pack: &[u8], start: Words, out: &mut [u8]) -> Result<usize, PackError<ShowError>>
+pub fn show_fetch(
+    clause: Clause,
+    pack: &[u8],
+    start: Words,
+    out: &mut [u8],
+) -> Result<usize, PackError<ShowError>>
     ensures value { result ≡ pack_shown clause pack.now start out.old }
     ensures out_after { out.new ≡ pack_shown_after clause pack.now start out.old }
 {
@@ -46,7 +51,12 @@ pub fn show_fetch(clause: Clause, pack: &[u8], start: Words, out: &mut [u8]) -> 
 }
 
 // Puts settings into the fetch at word `start`. Where something is wrong every byte of the pack stays.
-pub fn edit_fetch(clause: Clause, pack: &mut [u8], start: Words, settings: &[u8]) -> Result<(), PackError<EditError>>
+pub fn edit_fetch(
+    clause: Clause,
+    pack: &mut [u8],
+    start: Words,
+    settings: &[u8],
+) -> Result<(), PackError<EditError>>
     ensures value { result ≡ pack_edit clause pack.old start settings.now }
     ensures pack_after { pack.new ≡ pack_after clause pack.old start settings.now }
     ensures pack_promised { PackPromised clause pack.old pack.new settings.now start result }
@@ -58,7 +68,13 @@ pub fn edit_fetch(clause: Clause, pack: &mut [u8], start: Words, settings: &[u8]
 }
 
 // The same with the pack's words, which are stored again where the edit is done.
-fn edit_words(clause: Clause, words: &mut [u32], start: Words, settings: &[u8], pack: &mut [u8]) -> Result<(), EditError>
+fn edit_words(
+    clause: Clause,
+    words: &mut [u32],
+    start: Words,
+    settings: &[u8],
+    pack: &mut [u8],
+) -> Result<(), EditError>
     requires words { words.old ≡ words_in pack.old }
     requires whole { length pack.old % 4 ≡ 0 }
     ensures { EditedIn clause pack.old pack.new settings.now start result }
