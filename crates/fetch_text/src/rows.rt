@@ -1,7 +1,7 @@
 // Rows of a fetch's values: read from words, written as text, and changed by settings.
 ghost use Rattle.std.specs.Prelude.{◌≡◌, ◌<◌, length, position};
 ghost use Rattle.std.specs.List.{before_first, after_first};
-ghost use Rattle.report.specs.Settings.{keys_for};
+ghost use Rattle.report.specs.Settings.{keys_lent};
 ghost use Rattle.report.specs.Buffer.{written_of, buffer_after};
 ghost use Rattle.fetch_codec.specs.Buffer.{decode_of};
 ghost use Rattle.codec_for_c.specs.FetchValues.{fetch_in};
@@ -33,13 +33,13 @@ pub(crate) fn write_row(row: &Row, out: &mut [u8]) -> Result<usize, TooSmall>
     ensures value { result ≡ written_of (text_of (fetch_in row.now)) out.old }
     ensures out_after { out.new ≡ buffer_after (text_of (fetch_in row.now)) out.old }
 {
-    report::write_settings(names(row), &row[1..], out)
+    report::write_settings(row_keys(row), &row[1..], out)
 }
 
-// The names of the fields of a row's form, a number, since rows are made for C (`codec_for_c::zlatomruk_decode_fetch`).
-fn names(row: &Row) -> &'static [&'static str]
+// The keys of the fields of a row's form, a number, since rows are made for C (`codec_for_c::zlatomruk_decode_fetch`).
+fn row_keys(row: &Row) -> &'static [&'static [u8]]
     requires { Holds row.now }
-    ensures { keys_for result.now ≡ keys_of (fetch_in row.now) }
+    ensures { keys_lent result.now ≡ keys_of (fetch_in row.now) }
 {
     let form = row[0];
     if form == 5 {
@@ -90,7 +90,7 @@ fn set_line(row: &mut Row, line: &[u8]) -> Result<(), Fault>
     requires { Holds row.old }
     ensures { SettingPut row.old row.new line.now result }
 {
-    let (index, n) = settings::read_setting(names(row), line)?;
+    let (index, n) = settings::read_setting(row_keys(row), line)?;
     set_value(row, index, n)
 }
 

@@ -12,11 +12,11 @@ pub record Appended (at : ℕ) (bytes earlier later : List ℕ) (end : ℕ) : Ty
   pub written : take end later ≡ take at earlier ++ bytes
   pub kept : drop end later ≡ drop end earlier
 
--- a line NAME=value
+-- a line NAME=value: a key with its equals sign, and a value
 abbrev pub text_line : List ℕ → List ℕ → List ℕ
-text_line name value = name ++ (ascii "=" ++ (value ++ ascii "\n"))
+text_line key value = key ++ (value ++ ascii "\n")
 
--- what stands behind the equals sign
+-- what stands behind a key
 abbrev pub value_text : Value → List ℕ
 value_text (Word word) = word.now
 value_text (Number n) = decimal n

@@ -15,9 +15,9 @@ equals_sign = code "="
 abbrev pub key_of : String → List ℕ
 key_of name = ascii name ++ ascii "="
 
--- the keys of names as the code has them
-abbrev pub keys_for : List (Bor (List ℕ)) → List (List ℕ)
-keys_for names = map (λ (name : Bor (List ℕ)). name.now ++ ascii "=") names
+-- the keys that are lent to the code, each whole
+abbrev pub keys_lent : List (Bor (List ℕ)) → List (List ℕ)
+keys_lent keys = map (λ (key : Bor (List ℕ)). key.now) keys
 
 -- keys set to values, the first to the first and so on, as many as there are of both: the key, and the value in decimal
 unfoldable pub setting_lines : List (List ℕ) → List ℕ → List (List ℕ)

@@ -16,7 +16,7 @@ pub fn write_explanation(explanation: Explanation, out: &mut [u8]) -> Result<usi
     ensures out_after { out.new ≡ buffer_after (explanation_bytes explanation) out.old }
 {
     match explanation.verdict {
-        Ok(()) => write_lines(&[("verdict", Number(0))], out),
+        Ok(()) => write_lines(&[("verdict=", Number(0))], out),
         Err(refusal) => write_refusal(refusal, explanation.fault, out),
     }
 }
@@ -31,12 +31,12 @@ fn write_refusal(
 {
     let (found, limit) = numbers_of(fault);
     let lines = [
-        ("verdict", Number(refusal.rule as usize)),
-        ("place", Number(usize::from(refusal.place))),
-        ("slot", Number(refusal.slot.0)),
-        ("rule", Word(rule_word(refusal.rule))),
-        ("found", found),
-        ("limit", limit),
+        ("verdict=", Number(refusal.rule as usize)),
+        ("place=", Number(usize::from(refusal.place))),
+        ("slot=", Number(refusal.slot.0)),
+        ("rule=", Word(rule_word(refusal.rule))),
+        ("found=", found),
+        ("limit=", limit),
     ];
     write_lines(&lines, out)
 }

@@ -33,11 +33,11 @@ pub fn write_report(
     ensures out_after { out.new ≡ buffer_after (report_bytes build verdict) out.old }
 {
     let lines = [
-        ("build", Word(build_word(shown_build(build, verdict)))),
-        ("verdict", Number(checks::verdict_number(verdict) as usize)),
-        ("place", Number(checks::verdict_place(verdict))),
-        ("slot", Number(checks::verdict_slot(verdict))),
-        ("release", Word(yes_or_no(is_released(build, verdict)))),
+        ("build=", Word(build_word(shown_build(build, verdict)))),
+        ("verdict=", Number(checks::verdict_number(verdict) as usize)),
+        ("place=", Number(checks::verdict_place(verdict))),
+        ("slot=", Number(checks::verdict_slot(verdict))),
+        ("release=", Word(yes_or_no(is_released(build, verdict)))),
     ];
     write_lines(&lines, out)
 }

@@ -7,13 +7,14 @@ ghost use Rattle.report.specs.Code.{Appended, text_line, value_text, text_lines}
 use crate::TooSmall;
 use crate::decimal::Decimal;
 
-// What stands behind an equals sign.
+// What stands behind a key.
 #[derive(Clone, Copy)]
 pub(crate) enum Value {
     Word(&'static str),
     Number(usize),
 }
 
+// A key with its equals sign, and what stands behind it.
 pub(crate) type Line = (&'static str, Value);
 
 // Writes lines to the start of `out`, and answers how many bytes they have; where they do not fit, `out` stays as it was.
@@ -32,8 +33,8 @@ fn have_room(lines: &[Line], room: usize) -> bool
     ensures { result ≡ leb (length (joined (text_lines lines.now))) room }
 {
     let mut left = room;
-    for (name, value) in lines {
-        let Some(behind) = room_behind(left, name, *value) else {
+    for (key, value) in lines {
+        let Some(behind) = room_behind(left, key.as_bytes(), *value) else {
             return false;
         };
         left = behind;
@@ -47,19 +48,19 @@ fn put_lines(lines: &[Line], out: &mut [u8]) -> usize
     ensures { Appended 0 (joined (text_lines lines.now)) out.old out.new result }
 {
     let mut at = 0;
-    for (name, value) in lines {
-        at = put_line(out, at, name, *value);
+    for (key, value) in lines {
+        at = put_line(out, at, key.as_bytes(), *value);
     }
     at
 }
 
 // What is left of `room` behind a line, if that has room there. Its parts are taken off one by one, so that no sum can grow too large.
-pub(crate) fn room_behind(room: usize, name: &str, value: Value) -> Option<usize>
-    ensures { let line = length (text_line name.now (value_text value)) in result ≡ (if leb line room then Some (room - line) else None) }
+pub(crate) fn room_behind(room: usize, key: &[u8], value: Value) -> Option<usize>
+    ensures { let line = length (text_line key.now (value_text value)) in result ≡ (if leb line room then Some (room - line) else None) }
 {
-    room.checked_sub(name.len())?
+    room.checked_sub(key.len())?
         .checked_sub(length(value))?
-        .checked_sub(2)
+        .checked_sub(1)
 }
 
 fn length(value: Value) -> usize
@@ -72,12 +73,11 @@ fn length(value: Value) -> usize
 }
 
 // Puts a line at `at`, and answers where it ends.
-pub(crate) fn put_line(out: &mut [u8], at: usize, name: &str, value: Value) -> usize
-    requires { at + length (text_line name.now (value_text value)) ≤ length out.old }
-    ensures { Appended at (text_line name.now (value_text value)) out.old out.new result }
+pub(crate) fn put_line(out: &mut [u8], at: usize, key: &[u8], value: Value) -> usize
+    requires { at + length (text_line key.now (value_text value)) ≤ length out.old }
+    ensures { Appended at (text_line key.now (value_text value)) out.old out.new result }
 {
-    let at_sign = put(out, at, name.as_bytes());
-    let at_value = put(out, at_sign, b"=");
+    let at_value = put(out, at, key);
     let at_feed = put_value(out, at_value, value);
     put(out, at_feed, b"\n")
 }

@@ -1,7 +1,7 @@
 // Settings: lines NAME=number for names and numbers that a caller gives. Each is made where it is put, as no memory holds any number of them,
 // so that the two loops stand here besides those of lines.rt.
 ghost use Rattle.std.specs.Prelude.{◌≡◌, ◌≤◌, leb, length};
-ghost use Rattle.report.specs.Settings.{keys_for, settings_text};
+ghost use Rattle.report.specs.Settings.{keys_lent, settings_text};
 ghost use Rattle.report.specs.Buffer.{written_of, buffer_after};
 ghost use Rattle.report.specs.Code.{Appended};
 
@@ -9,10 +9,10 @@ use crate::TooSmall;
 use crate::lines::{Value, put_line, room_behind};
 
 // Writes a line for each of the keys and values to the start of `out`, as many as there are of both, and answers how many bytes they
-// have; where they do not fit, `out` stays as it was. `keys` are names, without their equals sign.
-pub fn write_settings(keys: &[&str], values: &[u32], out: &mut [u8]) -> Result<usize, TooSmall>
-    ensures value { result ≡ written_of (settings_text (keys_for keys.now) values.now) out.old }
-    ensures out_after { out.new ≡ buffer_after (settings_text (keys_for keys.now) values.now) out.old }
+// have; where they do not fit, `out` stays as it was. Each key ends with its equals sign.
+pub fn write_settings(keys: &[&[u8]], values: &[u32], out: &mut [u8]) -> Result<usize, TooSmall>
+    ensures value { result ≡ written_of (settings_text (keys_lent keys.now) values.now) out.old }
+    ensures out_after { out.new ≡ buffer_after (settings_text (keys_lent keys.now) values.now) out.old }
 {
     if !have_room(keys, values, out.len()) {
         return Err(TooSmall);
@@ -21,8 +21,8 @@ pub fn write_settings(keys: &[&str], values: &[u32], out: &mut [u8]) -> Result<u
 }
 
 // Whether the lines are at most `room` bytes.
-fn have_room(keys: &[&str], values: &[u32], room: usize) -> bool
-    ensures { result ≡ leb (length (settings_text (keys_for keys.now) values.now)) room }
+fn have_room(keys: &[&[u8]], values: &[u32], room: usize) -> bool
+    ensures { result ≡ leb (length (settings_text (keys_lent keys.now) values.now)) room }
 {
     let mut left = room;
     for (key, value) in keys.iter().zip(values) {
@@ -35,9 +35,9 @@ fn have_room(keys: &[&str], values: &[u32], room: usize) -> bool
 }
 
 // Puts the lines to the start of `out`, and answers where they end.
-fn put_settings(keys: &[&str], values: &[u32], out: &mut [u8]) -> usize
-    requires { length (settings_text (keys_for keys.now) values.now) ≤ length out.old }
-    ensures { Appended 0 (settings_text (keys_for keys.now) values.now) out.old out.new result }
+fn put_settings(keys: &[&[u8]], values: &[u32], out: &mut [u8]) -> usize
+    requires { length (settings_text (keys_lent keys.now) values.now) ≤ length out.old }
+    ensures { Appended 0 (settings_text (keys_lent keys.now) values.now) out.old out.new result }
 {
     let mut at = 0;
     for (key, value) in keys.iter().zip(values) {

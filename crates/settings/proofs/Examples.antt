@@ -7,7 +7,7 @@ use Prim.Native.Nat.{ℕ}
 use Rattle.ascii.specs.Ascii.{ascii}
 use Rattle.ascii.specs.Decimal.{decimal, decimal_within, all_digits, digits_value}
 use Rattle.card.specs.Text.{begins_with, same_as, is_decimal, number_of, number_in}
-use Rattle.report.specs.Settings.{key_of, keys_for, setting_lines, settings_text}
+use Rattle.report.specs.Settings.{key_of, keys_lent, setting_lines, settings_text}
 use Rattle.settings.specs.Setting.{NoName, NoNumber, Is, setting_from, setting_of, changed_by}
 use Rattle.settings.specs.ReadBack.{good_keys}
 
@@ -16,9 +16,9 @@ use Rattle.settings.specs.ReadBack.{good_keys}
 abbrev keys : List (List ℕ)
 keys = key_of "X" ∷ key_of "XY" ∷ key_of "MODE" ∷ []
 
--- of names as the code has them
-named : keys_for (map (λ (name : String). record { ref_ptr = (0, 0); now = ascii name }) ("X" ∷ "XY" ∷ "MODE" ∷ [])) ≡ keys
-named = refl
+-- as the code has them
+lent : keys_lent (map (λ (key : String). record { ref_ptr = (0, 0); now = ascii key }) ("X=" ∷ "XY=" ∷ "MODE=" ∷ [])) ≡ keys
+lent = refl
 
 good : good_keys keys ≡ true
 unfolding same_as

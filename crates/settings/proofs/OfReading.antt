@@ -1,28 +1,25 @@
 -- A setting is read key by key; and a key and a number that are written are read back, since no good key begins another. Assumes nothing.
 use mathlib.Core.Path.{◌≡◌, refl, sym, ap, ap₂, ◌∙◌}
-use mathlib.Core.Bool.{Bool, true, false, cond, not, ◌&&◌, false≢true}
-use Rattle.std.proofs.Math.Bool.{and_assoc}
+use mathlib.Core.Bool.{true, false, cond, not, ◌&&◌, false≢true}
 use mathlib.Core.List.{List, [], ◌∷◌, ◌++◌}
-use Rattle.std.specs.Prelude.{Option, None, Some, MatchOption, option_copied}
+use Rattle.std.specs.Prelude.{Option, None, Some}
 use Rattle.std.specs.Borrow.{Bor}
 use Rattle.std.specs.Cmp.Lexicographic.{pointwise}
-use Rattle.std.proofs.lemmas.Option.{none-some, cond_some}
 use Prim.Native.Nat.{ℕ, zero, suc, ◌+◌, ◌^◌, ◌≤◌, ◌<◌}
 use native.Mathlib.Nat.{add-zero, zero-add}
 use native.Mathlib.Numerals.{add-one}
 use native.Mathlib.Omega.{arith}
 use borrow.Author.Tests.{eq-eqb, eqb-true, eqb-false, le-leb, not-true}
 use lib.Dec.{eqb, leb}
-use lib.ListN.{length, get_or, take, drop, drop_of_length-le, length-append}
-use lib.Seq.{drop-append_seam, drop-cons, drop-drop}
+use lib.ListN.{length, get_or, take, drop, drop_of_length-le}
+use lib.Seq.{drop-append_seam, drop-cons}
 use Rattle.laws.proofs.OfTests.{both, both_hold, by_test_lem}
 use Rattle.laws.proofs.OfCases.{impossible}
-use Rattle.ascii.specs.Ascii.{ascii}
 use Rattle.ascii.specs.Decimal.{decimal}
 use Rattle.card.specs.Text.{begins_with, same_as, number_in, of_32_bits}
 use Rattle.card.proofs.OfKeys.{begins_as}
 use Rattle.card.proofs.OfWritten.{begins_own, allowed_read}
-use Rattle.report.specs.Settings.{equals_sign, keys_for}
+use Rattle.report.specs.Settings.{equals_sign, keys_lent}
 use Rattle.settings.specs.Setting.{Setting, Is, NoName, NoNumber, value_read, setting_from, setting_of}
 use Rattle.settings.specs.ReadBack.{is_key, none_is, good_keys, ReadBack}
 
@@ -117,85 +114,38 @@ index_within keys bytes e = let below = index_from 0 keys bytes e in omega arith
 -- ---- key by key, as a loop reads
 
 -- the keys before `index` do not begin the setting
-pub record Searched (names : List (Bor (List ℕ))) (bytes : List ℕ) (index : ℕ) : Type 0 where
-  pub left : setting_of (keys_for names) bytes ≡ setting_from index (keys_for (drop index names)) bytes
+pub record Searched (keys : List (Bor (List ℕ))) (bytes : List ℕ) (index : ℕ) : Type 0 where
+  pub left : setting_of (keys_lent keys) bytes ≡ setting_from index (keys_lent (drop index keys)) bytes
 
--- the key of a name
-abbrev pub key_for : Bor (List ℕ) → List ℕ
-key_for name = name.now ++ ascii "="
-
--- what stands behind a key, as the code answers it
-abbrev pub behind_key : List ℕ → List ℕ → Option (List ℕ)
-behind_key key bytes = cond (begins_with key bytes) (Some (drop (length key) bytes)) None
-
-module _ {names : List (Bor (List ℕ))} {bytes : List ℕ} {index : ℕ} (w : Searched names bytes index) where
-  pub all_searched : length names ≤ index → NoName ≡ setting_of (keys_for names) bytes
+module _ {keys : List (Bor (List ℕ))} {bytes : List ℕ} {index : ℕ} (w : Searched keys bytes index) where
+  pub all_searched : length keys ≤ index → NoName ≡ setting_of (keys_lent keys) bytes
   unfolding setting_from
-  all_searched h = sym (w.left ∙ ap (λ (l : List (Bor (List ℕ))). setting_from index (keys_for l) bytes) (drop_of_length-le names h))
+  all_searched h = sym (w.left ∙ ap (λ (l : List (Bor (List ℕ))). setting_from index (keys_lent l) bytes) (drop_of_length-le keys h))
 
-  module _ (other : Bor (List ℕ)) (h : index < length names) where
+  module _ (other : Bor (List ℕ)) (h : index < length keys) where
     abbrev key : List ℕ
-    key = key_for (get_or names index other)
+    key = (get_or keys index other).now
 
-    split : setting_of (keys_for names) bytes ≡ cond (begins_with key bytes) (value_read index (number_in of_32_bits (drop (length key) bytes))) (setting_from (suc index) (keys_for (drop (suc index) names)) bytes)
+    split : setting_of (keys_lent keys) bytes ≡ cond (begins_with key bytes) (value_read index (number_in of_32_bits (drop (length key) bytes))) (setting_from (suc index) (keys_lent (drop (suc index) keys)) bytes)
     unfolding setting_from
-    split = w.left ∙ ap (λ (l : List (Bor (List ℕ))). setting_from index (keys_for l) bytes) (drop-cons names index other h)
+    split = w.left ∙ ap (λ (l : List (Bor (List ℕ))). setting_from index (keys_lent l) bytes) (drop-cons keys index other h)
 
-    pub key_other : None ≡ behind_key key bytes → Searched names bytes (index + 1)
+    -- as the library answers for the key
+    pub key_other : pointwise eqb (take (length key) bytes) key ≡ false → Searched keys bytes (index + 1)
     key_other e =
         record {
           left =
               split
-              ∙ by (begins_with key bytes) e
-              ∙ ap (λ (i : ℕ). setting_from i (keys_for (drop i names)) bytes) (sym (add-one index));
+              ∙ rw (sym (begins_as key bytes) ∙ e)
+              (ap (λ (i : ℕ). setting_from i (keys_lent (drop i keys)) bytes) (sym (add-one index)));
         }
-      where
-        by : (x : Bool) → None ≡ cond x (Some (drop (length key) bytes)) None
-            → cond x (value_read index (number_in of_32_bits (drop (length key) bytes))) (setting_from (suc index) (keys_for (drop (suc index) names)) bytes)
-            ≡ setting_from (suc index) (keys_for (drop (suc index) names)) bytes
-        by true e = absurd (none-some (drop (length key) bytes) e)
-        by false e = refl
 
-    module _ {value : List ℕ} (e : Some value ≡ behind_key key bytes) where
-      found_key : setting_of (keys_for names) bytes ≡ value_read index (number_in of_32_bits value)
-      found_key =
-          let c = cond_some (begins_with key bytes) (drop (length key) bytes) value (sym e) in
-          split ∙ rw (c.0, c.1)
+    module _ (e : pointwise eqb (take (length key) bytes) key ≡ true) {value : List ℕ} (v : value ≡ drop (length key) bytes) where
+      found_key : setting_of (keys_lent keys) bytes ≡ value_read index (number_in of_32_bits value)
+      found_key = split ∙ rw (sym (begins_as key bytes) ∙ e, v)
 
-      pub key_number : {n : ℕ} → Some n ≡ number_in of_32_bits value → Is index n ≡ setting_of (keys_for names) bytes
+      pub key_number : {n : ℕ} → Some n ≡ number_in of_32_bits value → Is index n ≡ setting_of (keys_lent keys) bytes
       key_number p = sym (found_key ∙ ap (value_read index) (sym p))
 
-      pub key_no_number : None ≡ number_in of_32_bits value → NoNumber ≡ setting_of (keys_for names) bytes
+      pub key_no_number : None ≡ number_in of_32_bits value → NoNumber ≡ setting_of (keys_lent keys) bytes
       key_no_number p = sym (found_key ∙ ap (value_read index) (sym p))
-
--- ---- a name and its equals sign, one behind the other
-
-sign_behind : (name bytes : List ℕ) → begins_with (name ++ ascii "=") bytes ≡ begins_with name bytes && begins_with (ascii "=") (drop (length name) bytes)
-unfolding begins_with
-sign_behind [] bytes = refl
-sign_behind (b ∷ name) [] = refl
-sign_behind (b ∷ name) (c ∷ bytes) = ap (λ (x : Bool). eqb c b && x) (sign_behind name bytes) ∙ sym (and_assoc (eqb c b) (begins_with name bytes) (begins_with (ascii "=") (drop (length name) bytes)))
-
-module _ (name bytes : List ℕ) where
-  rest_behind : drop (length (name ++ ascii "=")) bytes ≡ drop 1 (drop (length name) bytes)
-  rest_behind = ap (λ (n : ℕ). drop n bytes) (omega (arith, length-append name (ascii "="))) ∙ sym (drop-drop 1 (length name) bytes)
-
-  pub no_name_there : pointwise eqb (take (length name) bytes) name ≡ false → None ≡ behind_key (name ++ ascii "=") bytes
-  no_name_there h = sym (rw (sign_behind name bytes, sym (begins_as name bytes) ∙ h))
-
-  module _ (h : pointwise eqb (take (length name) bytes) name ≡ true) where
-    pub no_sign_there : pointwise eqb (take 1 (drop (length name) bytes)) (ascii "=") ≡ false → None ≡ behind_key (name ++ ascii "=") bytes
-    no_sign_there k =
-        sym (rw (sign_behind name bytes, sym (begins_as name bytes) ∙ h, sym (begins_as (ascii "=") (drop (length name) bytes)) ∙ k))
-
-    pub sign_there : pointwise eqb (take 1 (drop (length name) bytes)) (ascii "=") ≡ true → Some (drop 1 (drop (length name) bytes)) ≡ behind_key (name ++ ascii "=") bytes
-    sign_there k =
-        sym (rw (sign_behind name bytes, sym (begins_as name bytes) ∙ h, sym (begins_as (ascii "=") (drop (length name) bytes)) ∙ k) (ap Some rest_behind))
-
-    -- as the library answers for the equals sign
-    pub sign_read : {rest : List ℕ} → rest ≡ drop (length name) bytes → (r : Option (Bor (List ℕ)))
-        → MatchOption r (pointwise eqb (take 1 rest) (ascii "=") ≡ false)
-        (λ x. (pointwise eqb (take 1 rest) (ascii "=") ≡ true) × (x.now ≡ drop 1 rest) × (length x.now + 1 ≡ length rest))
-        → option_copied r ≡ behind_key (name ++ ascii "=") bytes
-    sign_read e None m = no_sign_there (rw e at m)
-    sign_read e (Some x) m = ap Some (m.1 ∙ ap (λ (l : List ℕ). drop 1 l) e) ∙ sign_there (rw e at m.0)

@@ -5,12 +5,12 @@ use Rattle.report.proofs.lines.have_room.Goals as goal
 
 pub returns-in_default : goal.returns-in_default
 returns-in_default c =
-    line_too_long (fitting_here c.args.lines.now c.loop-name.name-index _ c.loop-name-test.true c.loop-name.invariant) (too_long _ _ c.in_default.ensures)
+    line_too_long (fitting_here c.args.lines.now c.loop-key.key-index _ c.loop-key-test.true c.loop-key.invariant) (too_long _ _ (rw c.as_bytes.ensures.value at c.in_default.ensures))
 
-pub loop-name-preserved : goal.loop-name-preserved
-loop-name-preserved c =
-    let l = left_over _ _ c.in-Some.ensures in
-    rw (sym l.1) (line_taken (fitting_here c.args.lines.now c.loop-name.name-index _ c.loop-name-test.true c.loop-name.invariant) l.0)
+pub loop-key-preserved : goal.loop-key-preserved
+loop-key-preserved c =
+    let l = left_over _ _ (rw c.as_bytes.ensures.value at c.in-Some.ensures) in
+    rw (sym l.1) (line_taken (fitting_here c.args.lines.now c.loop-key.key-index _ c.loop-key-test.true c.loop-key.invariant) l.0)
 
 pub returns : goal.returns
-returns c = all_taken (rw (no_lines_left c.args.lines.now c.loop-name.name-index c.loop-name-test.false) at c.loop-name.invariant)
+returns c = all_taken (rw (no_lines_left c.args.lines.now c.loop-key.key-index c.loop-key-test.false) at c.loop-key.invariant)

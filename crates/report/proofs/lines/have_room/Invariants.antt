@@ -4,5 +4,5 @@ use Rattle.report.specs.Code.{text_lines}
 use Rattle.report.proofs.OfLines.{Fitting}
 use Rattle.report.proofs.lines.have_room.Given as goal
 
-abbrev pub invariant-loop-name : goal.invariant-loop-name
-invariant-loop-name l = Fitting (text_lines l.lines) (text_lines (drop l.name-index l.lines)) l.room l.left
+abbrev pub invariant-loop-key : goal.invariant-loop-key
+invariant-loop-key l = Fitting (text_lines l.lines) (text_lines (drop l.key-index l.lines)) l.room l.left

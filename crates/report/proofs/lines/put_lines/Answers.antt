@@ -4,11 +4,12 @@ use Rattle.report.proofs.lines.put_lines.Goals as goal
 
 pub put_line-at-requires : goal.put_line-at-requires
 put_line-at-requires c =
-    line_room (putting_here c.args.lines.now c.loop-name.name-index _ c.loop-name-test.true c.loop-name.invariant) c.requires
+    rw c.as_bytes.ensures.value (line_room (putting_here c.args.lines.now c.loop-key.key-index _ c.loop-key-test.true c.loop-key.invariant) c.requires)
 
-pub loop-name-preserved : goal.loop-name-preserved
-loop-name-preserved c =
-    line_put (putting_here c.args.lines.now c.loop-name.name-index _ c.loop-name-test.true c.loop-name.invariant) c.put_line-at.auto.out c.put_line-at.ensures
+pub loop-key-preserved : goal.loop-key-preserved
+loop-key-preserved c =
+    line_put (putting_here c.args.lines.now c.loop-key.key-index _ c.loop-key-test.true c.loop-key.invariant) c.put_line-at.auto.out
+    (rw c.as_bytes.ensures.value at c.put_line-at.ensures)
 
 pub returns : goal.returns
-returns c = all_put (rw (no_lines_left c.args.lines.now c.loop-name.name-index c.loop-name-test.false) at c.loop-name.invariant)
+returns c = all_put (rw (no_lines_left c.args.lines.now c.loop-key.key-index c.loop-key-test.false) at c.loop-key.invariant)

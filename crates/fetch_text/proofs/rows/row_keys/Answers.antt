@@ -1,11 +1,11 @@
--- The names are those of the tables of the row's form.
+-- The keys are those of the tables of the row's form.
 use Rattle.std.proofs.Common.{refl, sym, ◌∙◌}
 use Rattle.formats.specs.Tex as tex
 use Rattle.formats.specs.Vtx as vtx
 use Rattle.codec_for_c.specs.FetchValues.{fetch_in}
 use Rattle.fetch_text.proofs.OfForms.{tex_keys, gpr_keys, sem_keys}
 use Rattle.fetch_text.proofs.OfRows.{form_of_row}
-use Rattle.fetch_text.proofs.rows.names.Goals as goal
+use Rattle.fetch_text.proofs.rows.row_keys.Goals as goal
 
 pub returns-then-form-eq5 : goal.returns-then-form-eq5
 unfolding tex.word0_fields tex.word1_fields tex.word2_fields
