@@ -28,7 +28,7 @@ something_wrong (Some x) e h = cc
 
 -- ---- one setting
 
--- what was read of a line by names that are those of the row
+-- what was read of a line by keys that are those of the row
 pub said_is :
     {keys own : List (List ℕ)} (line : List ℕ) {r s : Setting} → keys ≡ own → r ≡ setting_of keys line → r ≡ s → setting_of own line ≡ s
 said_is line n v w = sym (ap (λ (ks : List (List ℕ)). setting_of ks line) n) ∙ sym v ∙ w

@@ -1,4 +1,4 @@
-// Settings: lines NAME=number for names and numbers that a caller gives. Each is made where it is put, as no memory holds any number of them,
+// Settings: lines NAME=number for keys and numbers that a caller gives. Each is made where it is put, as no memory holds any number of them,
 // so that the two loops stand here besides those of lines.rt.
 ghost use Rattle.std.specs.Prelude.{◌≡◌, ◌≤◌, leb, length};
 ghost use Rattle.report.specs.Settings.{keys_lent, settings_text};

@@ -1,4 +1,4 @@
-// Settings read back: one setting NAME=number, for names that a caller gives, as `report::write_settings` writes them.
+// Settings read back: one setting NAME=number, for keys that a caller gives, as `report::write_settings` writes them.
 #![tactic(auto)]
 
 ghost use Rattle.std.specs.Prelude.{◌≡◌};
