@@ -18,7 +18,8 @@ use Rattle.opcodes.specs.declared.alu.Issue.TheVariants.{Predicate, Kill, Mova, 
 use Rattle.grants.specs.declared.Limits.{Limits}
 use Rattle.grants.specs.Grants.{all_granted}
 use Rattle.instructions.specs.Instruction.{class_of, bad_field, has_relative, named}
-use Rattle.screens.specs.Code.{starts_of, widths_of, broken_by, more_literals}
+use Rattle.screens.specs.declared.Gap.{Gap}
+use Rattle.screens.specs.Code.{gaps_of, broken_by, more_literals}
 use Rattle.screens.proofs.OfGaps.{unbroken_field, unbroken_grants, unbroken_literals}
 use Rattle.std.specs.Prelude.{None}
 use Rattle.checks.specs.Verdict.{Accepted}
@@ -83,22 +84,22 @@ five_digits n a b d e f p h k l m =
 
 -- ---- one instruction's tests
 
-module _ (starts widths : List ℕ) (t : Taken) (code u lo hi : ℕ) where
-  pub wrong_alone : broken_by starts widths lo hi ≡ true → true ≡ is_wrong starts widths t code u lo hi
+module _ (gaps : List Gap) (t : Taken) (code u lo hi : ℕ) where
+  pub wrong_alone : broken_by gaps lo hi ≡ true → true ≡ is_wrong gaps t code u lo hi
   unfolding is_wrong
   wrong_alone h = rw h
 
   pub wrong_there :
-      {bad : Bool} {swizzle : ℕ} → broken_by starts widths lo hi ≡ false → swizzle ≡ BANK_SWIZZLE of hi → bad ≡ bad_unit t u swizzle
-      → (eqb (code % 4) 0 || bad) ≡ is_wrong starts widths t code u lo hi
+      {bad : Bool} {swizzle : ℕ} → broken_by gaps lo hi ≡ false → swizzle ≡ BANK_SWIZZLE of hi → bad ≡ bad_unit t u swizzle
+      → (eqb (code % 4) 0 || bad) ≡ is_wrong gaps t code u lo hi
   unfolding is_wrong
   wrong_there h s f = (λ i. eqb (code % 4) 0 || (f ∙ (λ j. bad_unit t u (s j))) i) ∙ rw h
 
   -- none of them: rules 12 and 15, 11, 13
-  right : is_wrong starts widths t code u lo hi ≡ false
-      → (broken_by starts widths lo hi ≡ false) × ((eqb (code % 4) 0 ≡ false) × (bad_unit t u (BANK_SWIZZLE of hi) ≡ false))
+  right : is_wrong gaps t code u lo hi ≡ false
+      → (broken_by gaps lo hi ≡ false) × ((eqb (code % 4) 0 ≡ false) × (bad_unit t u (BANK_SWIZZLE of hi) ≡ false))
   unfolding is_wrong
-  right h = by (broken_by starts widths lo hi) (eqb (code % 4) 0) (bad_unit t u (BANK_SWIZZLE of hi)) h
+  right h = by (broken_by gaps lo hi) (eqb (code % 4) 0) (bad_unit t u (BANK_SWIZZLE of hi)) h
     where
       by : (a b d : Bool) → cond a true (b || d) ≡ false → (a ≡ false) × ((b ≡ false) × (d ≡ false))
       by false false d e = (refl, (refl, e))
@@ -119,15 +120,15 @@ Clear limits lo hi t j = clear_seen t.literals t.taken (issues_of lo hi j) ≡ s
 -- one instruction more
 module _ (limits : Limits) (lo hi : PerInstruction) (j : ℕ) (t : Tally) (c : Clear limits lo hi t j) {code u : ℕ}
     (code_is : code ≡ code_of (class_of (hi j))) (unit_is : u ≡ unit_by t.taken (code % 4) (DST_CHAN of (hi j)))
-    (h : is_wrong (starts_of limits) (widths_of limits) t.taken code u (lo j) (hi j) ≡ false) where
+    (h : is_wrong (gaps_of limits) t.taken code u (lo j) (hi j) ≡ false) where
   unit_there : u ≡ unit_for t.taken (class_of (hi j)).unit (DST_CHAN of (hi j))
   unit_there =
       unit_is
       ∙ ap (λ (k : ℕ). unit_by t.taken (k % 4) (DST_CHAN of (hi j))) code_is
       ∙ unit_by_code (class_of (hi j)) t.taken (DST_CHAN of (hi j))
 
-  tests : (broken_by (starts_of limits) (widths_of limits) (lo j) (hi j) ≡ false) × ((eqb (code % 4) 0 ≡ false) × (bad_unit t.taken u (BANK_SWIZZLE of (hi j)) ≡ false))
-  tests = right (starts_of limits) (widths_of limits) t.taken code u (lo j) (hi j) h
+  tests : (broken_by (gaps_of limits) (lo j) (hi j) ≡ false) × ((eqb (code % 4) 0 ≡ false) × (bad_unit t.taken u (BANK_SWIZZLE of (hi j)) ≡ false))
+  tests = right (gaps_of limits) t.taken code u (lo j) (hi j) h
 
   taken_there : not (alu.is_taken (class_of (hi j))) ≡ false
   taken_there =
@@ -382,8 +383,8 @@ module _ (limits : Limits) (pixel : Bool) (w : List ℕ) (s : Quadwords) (n : Sl
     -- one instruction more, which breaks nothing by itself
     module _ (here : at < s.0 + n.0) {code u : ℕ} {low high : ℕ} (low-is : low ≡ get_or w (2 * at) 0) (high_is : high ≡ get_or w (2 * at + 1) 0)
         (code_is : code ≡ code_of (class_of high)) (unit_is : u ≡ unit_by t.taken (code % 4) (DST_CHAN of high))
-        {starts widths : List ℕ} (starts-are : starts ≡ starts_of limits) (widths-are : widths ≡ widths_of limits)
-        {wrong : Bool} (wrong-is : wrong ≡ is_wrong starts widths t.taken code u low high) (h : wrong ≡ false)
+        {gaps : List Gap} (gaps-are : gaps ≡ gaps_of limits)
+        {wrong : Bool} (wrong-is : wrong ≡ is_wrong gaps t.taken code u low high) (h : wrong ≡ false)
         {literal : ℕ} (literal-is : literal ≡ more_literals t.literals low high) {more : Tally} (more-is : more ≡ with_one t code u literal) where
       abbrev q : Quadwords
       q = slot_quadword s r.g
@@ -400,9 +401,9 @@ module _ (limits : Limits) (pixel : Bool) (w : List ℕ) (s : Quadwords) (n : Sl
       high_there =
           high_is ∙ (let z : 2 * at + 1 ≡ 2 * (s.0 + r.g.0 + r.j) + 1 = omega (arith, r.at-is) in ap (λ (k : ℕ). get_or w k 0) z)
 
-      right_there : is_wrong (starts_of limits) (widths_of limits) t.taken code u (lows r.g r.j) (highs r.g r.j) ≡ false
+      right_there : is_wrong (gaps_of limits) t.taken code u (lows r.g r.j) (highs r.g r.j) ≡ false
       right_there =
-          (λ i. is_wrong (sym starts-are i) (sym widths-are i) t.taken code u (sym low_there i) (sym high_there i))
+          (λ i. is_wrong (sym gaps-are i) t.taken code u (sym low_there i) (sym high_there i))
           ∙ sym wrong-is
           ∙ h
 

@@ -4,6 +4,7 @@ use Rattle.units.specs.declared.Quadwords.{Quadwords}
 use Rattle.units.specs.Units.{quadwords}
 use Rattle.formats.specs.Fields.{◌of◌, BANK_SWIZZLE}
 use Rattle.groups.specs.Code.{Taken, bad_unit, occupied, tally_of}
+use Rattle.screens.specs.declared.Gap.{Gap}
 use Rattle.screens.specs.Code.{broken_by}
 use Rattle.clauses.specs.declared.screen.Tally.{Tally}
 use Rattle.clauses.specs.Clause.{high_of}
@@ -12,9 +13,9 @@ abbrev pub no_tally : Tally
 no_tally = record { taken = 0; issued = 0; literals = 0 }
 
 -- an instruction breaks rule 12 or 15, 11 or 13; its class is given as one number
-unfoldable pub is_wrong : List ℕ → List ℕ → Taken → ℕ → ℕ → ℕ → ℕ → Bool
-is_wrong starts widths taken code unit lo hi =
-    cond (broken_by starts widths lo hi) true (code % 4 == 0 || bad_unit taken unit (BANK_SWIZZLE of hi))
+unfoldable pub is_wrong : List Gap → Taken → ℕ → ℕ → ℕ → ℕ → Bool
+is_wrong gaps taken code unit lo hi =
+    cond (broken_by gaps lo hi) true (code % 4 == 0 || bad_unit taken unit (BANK_SWIZZLE of hi))
 
 -- one instruction more, with which the group has so many literal quadwords
 abbrev pub with_one : Tally → ℕ → ℕ → ℕ → Tally

@@ -18,6 +18,7 @@ use crate::AluClause;
 use bits::read;
 use formats::fields;
 use groups::alu_units;
+use screens::Gap;
 
 // What is kept of the group that is being read, nothing by default.
 #[derive(Clone, Copy, Default)]
@@ -36,8 +37,7 @@ impl AluClause<'_> {
     {
         let words = self.words;
         let pixel = self.is_pixel();
-        let starts = screens::gap_starts(self.limits);
-        let widths = screens::gap_widths(self.limits);
+        let gaps = screens::gaps(self.limits);
         // The slots' quadwords are counted plainly from here on: each is read at its words' numbers, without a conversion and its cap.
         let end = units::slot_quadword(self.start, self.slots).0;
         let mut at = self.start.0;
@@ -53,7 +53,7 @@ impl AluClause<'_> {
             let next = at + 1 + only_if(last, literals) as usize;
             let code = instructions::class_code(high);
             let unit = unit_of(seen.taken, code, high);
-            if is_wrong(&starts, &widths, seen.taken, code, unit, low, high) {
+            if is_wrong(&gaps, seen.taken, code, unit, low, high) {
                 return false;
             }
             let more = seen.with_one(code, unit, literals);
@@ -88,17 +88,16 @@ fn unit_of(taken: u32, code: u32, high: u32) -> u32
 // Rules 11, 12, 13 and 15.
 #[tactic(auto, unfolding(crate::specs::CodeScreen::is_wrong))]
 fn is_wrong(
-    starts: &[u32; 32],
-    widths: &[u32; 32],
+    gaps: &[Gap; 32],
     taken: u32,
     code: u32,
     unit: u32,
     low: u32,
     high: u32,
 ) -> bool
-    ensures { result ≡ is_wrong starts.now widths.now taken code unit low high }
+    ensures { result ≡ is_wrong gaps.now taken code unit low high }
 {
-    if screens::breaks_alone(starts, widths, low, high) {
+    if screens::breaks_alone(gaps, low, high) {
         return true;
     }
     (code % 4 == 0) | alu_units::is_bad_unit(taken, unit, read(high, fields::BANK_SWIZZLE))

@@ -1,6 +1,6 @@
 -- The gaps by what the code tests, and what they say of rules 12 and 15: an instruction that they let through breaks neither. Assumes
 -- nothing.
-use Rattle.std.proofs.Common.{◌≡◌, ℕ, zero, suc, ◌+◌, ◌-◌, ◌*◌, ◌/◌, ◌%◌, ◌^◌, ◌<◌, ◌≤◌, min, max, Bool, true, false, cond, ◌&&◌, ◌||◌, eqb, ltb, leb, List, [], ◌∷◌, ◌++◌, get_or, drop, sym, refl, ap, ◌∙◌, arith, ltb-false, ltb-true, eq-eqb, eqb-true, le-leb}
+use Rattle.std.proofs.Common.{◌≡◌, ℕ, zero, suc, ◌+◌, ◌-◌, ◌*◌, ◌/◌, ◌%◌, ◌^◌, ◌<◌, ◌≤◌, min, max, Bool, true, false, cond, ◌&&◌, ◌||◌, eqb, ltb, leb, List, [], ◌∷◌, ◌++◌, drop, sym, refl, ap, ◌∙◌, arith, ltb-false, ltb-true, eq-eqb, eqb-true, le-leb}
 use mathlib.Core.Bool.{or-true, false≢true}
 use lib.Dec.{eqb-suc-zero}
 use Rattle.formats.specs.Fields.{position, ◌of◌, SRC0_SEL, SRC0_REL, SRC0_CHAN, SRC1_SEL, SRC1_REL, SRC1_CHAN, SRC2_SEL, SRC2_REL, SRC2_CHAN, INDEX_MODE, PRED_SEL, BANK_SWIZZLE, DST_GPR, DST_REL}
@@ -13,7 +13,8 @@ use Rattle.grants.proofs.OfGrants.{locked_most, all_joined}
 use Rattle.instructions.specs.declared.Source.{Source}
 use Rattle.instructions.specs.Instruction.{is_op3, is_written, is_relative, bad_source, bad_field, names_of, destination_names, named, literals, source_literals, source0_of, source1_of, source2_of}
 use Rattle.instructions.specs.Code.{third_word}
-use Rattle.screens.specs.Code.{with_rel, times, by_row, starts_of, widths_of, is_among, in_gap, writes_gap, bad_modes, asks_literal, is_second, asks_second, more_literals, broken_by}
+use Rattle.screens.specs.declared.Gap.{Gap}
+use Rattle.screens.specs.Code.{with_rel, gap, times, by_row, gaps_of, gap_at, is_among, in_gap, writes_gap, bad_modes, asks_literal, is_second, asks_second, more_literals, broken_by}
 
 -- ---- what the code tests
 
@@ -159,51 +160,51 @@ bad_modes_lem lo {m = m} e f =
 -- ---- one instruction, test by test
 
 -- what the code asks
-module _ (starts widths : List ℕ) (lo hi : ℕ) where
+module _ (gaps : List Gap) (lo hi : ℕ) where
   abbrev field_test : Bool
   field_test = bad_modes lo || ltb 5 (BANK_SWIZZLE of hi)
 
   abbrev source_test : Bool
-  source_test = in_gap starts widths (with_rel SRC0_SEL SRC0_REL lo) || in_gap starts widths (with_rel SRC1_SEL SRC1_REL lo)
+  source_test = in_gap gaps (with_rel SRC0_SEL SRC0_REL lo) || in_gap gaps (with_rel SRC1_SEL SRC1_REL lo)
 
   abbrev third_test : Bool
-  third_test = in_gap starts widths (with_rel SRC2_SEL SRC2_REL (third_word lo hi))
+  third_test = in_gap gaps (with_rel SRC2_SEL SRC2_REL (third_word lo hi))
 
 -- ---- rows
 
-run_in : (k v : ℕ) (rest : List ℕ) (r : ℕ) → r < k → get_or (times k v rest) r 0 ≡ v
+run_in : (k : ℕ) (v : Gap) (rest : List Gap) (r : ℕ) → r < k → gap_at (times k v rest) r ≡ v
 run_in zero v rest r h = absurd (omega arith)
 run_in (suc k) v rest zero h = refl
 run_in (suc k) v rest (suc r) h = run_in k v rest r (omega arith)
 
-skipped : (k : ℕ) (l : List ℕ) (r : ℕ) → get_or l (k + r) 0 ≡ get_or (drop k l) r 0
-skipped zero l r = let e : zero + r ≡ r = omega arith in ap (λ (n : ℕ). get_or l n 0) e
+skipped : (k : ℕ) (l : List Gap) (r : ℕ) → gap_at l (k + r) ≡ gap_at (drop k l) r
+skipped zero l r = let e : zero + r ≡ r = omega arith in ap (gap_at l) e
 skipped (suc k) [] r = refl
 skipped (suc k) (n ∷ l) r =
-    let e : suc k + r ≡ suc (k + r) = omega arith in ap (λ (m : ℕ). get_or (n ∷ l) m 0) e ∙ skipped k l r
+    let e : suc k + r ≡ suc (k + r) = omega arith in ap (gap_at (n ∷ l)) e ∙ skipped k l r
 
-module _ (a b d e f g : ℕ) where
-  row_registers : (r : ℕ) → r < 4 → get_or (by_row a b d e f g) r 0 ≡ a
+module _ (a b d e f g : Gap) where
+  row_registers : (r : ℕ) → r < 4 → gap_at (by_row a b d e f g) r ≡ a
   row_registers r h = run_in 4 a (drop 4 (by_row a b d e f g)) r h
 
-  row_inline : (r : ℕ) → r < 2 → get_or (by_row a b d e f g) (6 + r) 0 ≡ e
+  row_inline : (r : ℕ) → r < 2 → gap_at (by_row a b d e f g) (6 + r) ≡ e
   row_inline r h = skipped 6 (by_row a b d e f g) r ∙ run_in 2 e (drop 8 (by_row a b d e f g)) r h
 
-  row_constants : (r : ℕ) → r < 8 → get_or (by_row a b d e f g) (8 + r) 0 ≡ f
+  row_constants : (r : ℕ) → r < 8 → gap_at (by_row a b d e f g) (8 + r) ≡ f
   row_constants r h = skipped 8 (by_row a b d e f g) r ∙ run_in 8 f (drop 16 (by_row a b d e f g)) r h
 
-  row_relative : (r : ℕ) → r < 2 → get_or (by_row a b d e f g) (22 + r) 0 ≡ g
+  row_relative : (r : ℕ) → r < 2 → gap_at (by_row a b d e f g) (22 + r) ≡ g
   row_relative r h = skipped 22 (by_row a b d e f g) r ∙ run_in 2 g (drop 24 (by_row a b d e f g)) r h
 
 -- ---- what lies outside its row's gap
 
-past_gap : (x s w : ℕ) → x < 2 ^ 32 → s ≤ x → is_among x s w ≡ false → s + w ≤ x
+past_gap : (x s w : ℕ) → x < 2 ^ 32 → s ≤ x → is_among x (gap s w) ≡ false → s + w ≤ x
 unfolding is_among
 past_gap x s w h l e =
     let z = ltb-false ((x + (2 ^ 32 - s)) % 2 ^ 32) w e in let y : (x + (2 ^ 32 - s)) % 2 ^ 32 ≡ x - s = omega (arith, h, l) in omega (arith, z, y, l)
 
 -- a register outside the gap of registers is granted
-register_outside : (l : Limits) (x : ℕ) → is_among x l.gprs (128 - l.temps - l.gprs) ≡ false → x < 128 → granted l (alu_register x) ≡ true
+register_outside : (l : Limits) (x : ℕ) → is_among x (gap l.gprs (128 - l.temps - l.gprs)) ≡ false → x < 128 → granted l (alu_register x) ≡ true
 register_outside l x h k = by (ltb x l.gprs) refl
   where
     by : (t : Bool) → ltb x l.gprs ≡ t → (t || leb (128 - l.temps) x) ≡ true
@@ -213,17 +214,17 @@ register_outside l x h k = by (ltb x l.gprs) refl
         let g = past_gap x l.gprs (128 - l.temps - l.gprs) (omega arith) s h in
         le-leb (128 - l.temps) x (omega (arith, s, g))
 
--- one of a row's six numbers
+-- one of the six gaps
 abbrev Pick : Type 0
-Pick = ℕ → ℕ → ℕ → ℕ → ℕ → ℕ → ℕ
+Pick = Gap → Gap → Gap → Gap → Gap → Gap → Gap
 
-module _ (l : Limits) (x : ℕ) (h : in_gap (starts_of l) (widths_of l) x ≡ false) where
-  -- by the start and the width of its row
+module _ (l : Limits) (x : ℕ) (h : in_gap (gaps_of l) x ≡ false) where
+  -- the gap of its row
   row_gap :
-      (pick : Pick) → ((a b d e f g : ℕ) → get_or (by_row a b d e f g) (x / 32 % 32) 0 ≡ pick a b d e f g)
-      → is_among x (pick l.gprs (128 + locked l.mode0) (160 + locked l.mode1) 192 (256 + min l.consts 256) 704) (pick (128 - l.temps - l.gprs) (32 - locked l.mode0) (32 - locked l.mode1) 56 (256 - min l.consts 256) 64) ≡ false
-  unfolding in_gap starts_of widths_of
-  row_gap pick row = sym (λ i. is_among x (row l.gprs (128 + locked l.mode0) (160 + locked l.mode1) 192 (256 + min l.consts 256) 704 i) (row (128 - l.temps - l.gprs) (32 - locked l.mode0) (32 - locked l.mode1) 56 (256 - min l.consts 256) 64 i)) ∙ h
+      (pick : Pick) → ((a b d e f g : Gap) → gap_at (by_row a b d e f g) (x / 32 % 32) ≡ pick a b d e f g)
+      → is_among x (pick (gap l.gprs (128 - l.temps - l.gprs)) (gap (128 + locked l.mode0) (32 - locked l.mode0)) (gap (160 + locked l.mode1) (32 - locked l.mode1)) (gap 192 56) (gap (256 + min l.consts 256) (256 - min l.consts 256)) (gap 704 64)) ≡ false
+  unfolding in_gap gaps_of
+  row_gap pick row = sym (ap (is_among x) (row (gap l.gprs (128 - l.temps - l.gprs)) (gap (128 + locked l.mode0) (32 - locked l.mode0)) (gap (160 + locked l.mode1) (32 - locked l.mode1)) (gap 192 56) (gap (256 + min l.consts 256) (256 - min l.consts 256)) (gap 704 64))) ∙ h
 
   register_clear : x < 128 → granted l (alu_register x) ≡ true
   register_clear k =
@@ -238,7 +239,7 @@ module _ (l : Limits) (x : ℕ) (h : in_gap (starts_of l) (widths_of l) x ≡ fa
       by false e =
           let s = ltb-false (x - 128) (locked l.mode0) e in
           let row : x / 32 % 32 ≡ 4 = omega arith in
-          let g = past_gap x (128 + locked l.mode0) (32 - locked l.mode0) (omega arith) (omega (arith, s)) (row_gap (λ a b d e f g. b) (λ a b d e f g. ap (λ (n : ℕ). get_or (by_row a b d e f g) n 0) row)) in
+          let g = past_gap x (128 + locked l.mode0) (32 - locked l.mode0) (omega arith) (omega (arith, s)) (row_gap (λ a b d e f g. b) (λ a b d e f g. ap (gap_at (by_row a b d e f g)) row)) in
           absurd (omega (arith, s, g, locked_most l.mode0))
 
   set1_clear : 160 ≤ x → x < 192 → ltb (x - 160) (locked l.mode1) ≡ true
@@ -249,7 +250,7 @@ module _ (l : Limits) (x : ℕ) (h : in_gap (starts_of l) (widths_of l) x ≡ fa
       by false e =
           let s = ltb-false (x - 160) (locked l.mode1) e in
           let row : x / 32 % 32 ≡ 5 = omega arith in
-          let g = past_gap x (160 + locked l.mode1) (32 - locked l.mode1) (omega arith) (omega (arith, s)) (row_gap (λ a b d e f g. d) (λ a b d e f g. ap (λ (n : ℕ). get_or (by_row a b d e f g) n 0) row)) in
+          let g = past_gap x (160 + locked l.mode1) (32 - locked l.mode1) (omega arith) (omega (arith, s)) (row_gap (λ a b d e f g. d) (λ a b d e f g. ap (gap_at (by_row a b d e f g)) row)) in
           absurd (omega (arith, s, g, locked_most l.mode1))
 
   constant_clear : 256 ≤ x → x < 512 → ltb (x - 256) l.consts ≡ true
@@ -261,33 +262,33 @@ module _ (l : Limits) (x : ℕ) (h : in_gap (starts_of l) (widths_of l) x ≡ fa
           let s = ltb-false (x - 256) l.consts e in
           let row : x / 32 % 32 ≡ 8 + (x / 32 % 32 - 8) = omega arith in
           let few : x / 32 % 32 - 8 < 8 = omega arith in
-          let g = past_gap x (256 + min l.consts 256) (256 - min l.consts 256) (omega arith) (omega (arith, s)) (row_gap (λ a b d e f g. f) (λ a b d e f g. ap (λ (n : ℕ). get_or (by_row a b d e f g) n 0) row ∙ row_constants a b d e f g (x / 32 % 32 - 8) few)) in
+          let g = past_gap x (256 + min l.consts 256) (256 - min l.consts 256) (omega arith) (omega (arith, s)) (row_gap (λ a b d e f g. f) (λ a b d e f g. ap (gap_at (by_row a b d e f g)) row ∙ row_constants a b d e f g (x / 32 % 32 - 8) few)) in
           absurd (omega (arith, s, g))
 
   not_reserved : 192 ≤ x → x < 248 → ⊥
   not_reserved m k =
       let row : x / 32 % 32 ≡ 6 + (x / 32 % 32 - 6) = omega arith in
       let few : x / 32 % 32 - 6 < 2 = omega arith in
-      let g = past_gap x 192 56 (omega arith) m (row_gap (λ a b d e f g. e) (λ a b d e f g. ap (λ (n : ℕ). get_or (by_row a b d e f g) n 0) row ∙ row_inline a b d e f g (x / 32 % 32 - 6) few)) in
+      let g = past_gap x 192 56 (omega arith) m (row_gap (λ a b d e f g. e) (λ a b d e f g. ap (gap_at (by_row a b d e f g)) row ∙ row_inline a b d e f g (x / 32 % 32 - 6) few)) in
       omega (arith, g)
 
   not_relative : 704 ≤ x → x < 768 → ⊥
   not_relative m k =
       let row : x / 32 % 32 ≡ 22 + (x / 32 % 32 - 22) = omega arith in
       let few : x / 32 % 32 - 22 < 2 = omega arith in
-      let g = past_gap x 704 64 (omega arith) m (row_gap (λ a b d e f g. g) (λ a b d e f g. ap (λ (n : ℕ). get_or (by_row a b d e f g) n 0) row ∙ row_relative a b d e f g (x / 32 % 32 - 22) few)) in
+      let g = past_gap x 704 64 (omega arith) m (row_gap (λ a b d e f g. g) (λ a b d e f g. ap (gap_at (by_row a b d e f g)) row ∙ row_relative a b d e f g (x / 32 % 32 - 22) few)) in
       omega (arith, g)
 
 -- ---- one source
 
-module _ (l : Limits) (s : Source) (h : in_gap (starts_of l) (widths_of l) (s.sel + 512 * s.rel) ≡ false) where
+module _ (l : Limits) (s : Source) (h : in_gap (gaps_of l) (s.sel + 512 * s.rel) ≡ false) where
   module _ (z : s.rel ≡ 0) where
     direct : is_relative s ≡ false
     unfolding is_relative
     direct = rw z
 
-    clear : in_gap (starts_of l) (widths_of l) s.sel ≡ false
-    clear = let e : s.sel ≡ s.sel + 512 * s.rel = omega (arith, z) in ap (in_gap (starts_of l) (widths_of l)) e ∙ h
+    clear : in_gap (gaps_of l) s.sel ≡ false
+    clear = let e : s.sel ≡ s.sel + 512 * s.rel = omega (arith, z) in ap (in_gap (gaps_of l)) e ∙ h
 
     direct-fields : bad_source s ≡ false
     unfolding bad_source
@@ -377,27 +378,27 @@ tests_false false false true e h = absurd (false≢true (sym h))
 tests_false false true d e h = absurd (false≢true (sym h))
 tests_false true b d e h = absurd (false≢true (sym h))
 
-module _ (l : Limits) (lo hi : ℕ) (h : broken_by (starts_of l) (widths_of l) lo hi ≡ false) where
+module _ (l : Limits) (lo hi : ℕ) (h : broken_by (gaps_of l) lo hi ≡ false) where
   asked :
-      (field_test (starts_of l) (widths_of l) lo hi ≡ false)
-      × ((source_test (starts_of l) (widths_of l) lo hi ≡ false) × ((third_test (starts_of l) (widths_of l) lo hi ≡ false) × (writes_gap (starts_of l) (widths_of l) hi ≡ false)))
+      (field_test (gaps_of l) lo hi ≡ false)
+      × ((source_test (gaps_of l) lo hi ≡ false) × ((third_test (gaps_of l) lo hi ≡ false) × (writes_gap (gaps_of l) hi ≡ false)))
   unfolding broken_by
   asked =
-      tests_false (field_test (starts_of l) (widths_of l) lo hi) (source_test (starts_of l) (widths_of l) lo hi) (third_test (starts_of l) (widths_of l) lo hi) (writes_gap (starts_of l) (widths_of l) hi)
+      tests_false (field_test (gaps_of l) lo hi) (source_test (gaps_of l) lo hi) (third_test (gaps_of l) lo hi) (writes_gap (gaps_of l) hi)
       h
 
   first_two :
-      (in_gap (starts_of l) (widths_of l) (with_rel SRC0_SEL SRC0_REL lo) ≡ false) × (in_gap (starts_of l) (widths_of l) (with_rel SRC1_SEL SRC1_REL lo) ≡ false)
-  first_two = neither (in_gap (starts_of l) (widths_of l) (with_rel SRC0_SEL SRC0_REL lo)) _ asked.1.0
+      (in_gap (gaps_of l) (with_rel SRC0_SEL SRC0_REL lo) ≡ false) × (in_gap (gaps_of l) (with_rel SRC1_SEL SRC1_REL lo) ≡ false)
+  first_two = neither (in_gap (gaps_of l) (with_rel SRC0_SEL SRC0_REL lo)) _ asked.1.0
 
   first : (bad_source (source0_of lo) ≡ false) × (all_granted l (names_of (source0_of lo)) ≡ true)
   first =
-      source_clear l (source0_of lo) (ap (in_gap (starts_of l) (widths_of l)) (sym (source0_bits lo)) ∙ first_two.0) (omega arith)
+      source_clear l (source0_of lo) (ap (in_gap (gaps_of l)) (sym (source0_bits lo)) ∙ first_two.0) (omega arith)
       (omega arith)
 
   second : (bad_source (source1_of lo) ≡ false) × (all_granted l (names_of (source1_of lo)) ≡ true)
   second =
-      source_clear l (source1_of lo) (ap (in_gap (starts_of l) (widths_of l)) (sym (source1_bits lo)) ∙ first_two.1) (omega arith)
+      source_clear l (source1_of lo) (ap (in_gap (gaps_of l)) (sym (source1_bits lo)) ∙ first_two.1) (omega arith)
       (omega arith)
 
   third :
@@ -405,26 +406,26 @@ module _ (l : Limits) (lo hi : ℕ) (h : broken_by (starts_of l) (widths_of l) l
   third = by (is_op3 hi) asked.1.1.0
     where
       by :
-          (b : Bool) → in_gap (starts_of l) (widths_of l) (with_rel SRC2_SEL SRC2_REL (cond b hi lo)) ≡ false
+          (b : Bool) → in_gap (gaps_of l) (with_rel SRC2_SEL SRC2_REL (cond b hi lo)) ≡ false
           → ((b && bad_source (source2_of hi)) ≡ false) × (all_granted l (cond b (names_of (source2_of hi)) []) ≡ true)
       by false e = (refl, refl)
       by true e =
-          source_clear l (source2_of hi) (ap (in_gap (starts_of l) (widths_of l)) (sym (source2_bits hi)) ∙ e) (omega arith)
+          source_clear l (source2_of hi) (ap (in_gap (gaps_of l)) (sym (source2_bits hi)) ∙ e) (omega arith)
           (omega arith)
 
   destination : all_granted l (destination_names hi) ≡ true
-  unfolding destination_names writes_gap starts_of widths_of
+  unfolding destination_names writes_gap gaps_of
   destination = by (is_written hi) (DST_REL of hi) refl asked.1.1.1
     where
       by :
           (b : Bool) (r : ℕ) → DST_REL of hi ≡ r
-          → is_among (cond b (with_rel DST_GPR DST_REL hi) 255) l.gprs (128 - l.temps - l.gprs) ≡ false
+          → is_among (cond b (with_rel DST_GPR DST_REL hi) 255) (gap l.gprs (128 - l.temps - l.gprs)) ≡ false
           → all_granted l (cond (b && eqb r 0) (alu_register (DST_GPR of hi) ∷ []) []) ≡ true
       by false r e h = refl
       by true zero e h =
           let z : DST_GPR of hi ≡ with_rel DST_GPR DST_REL hi = omega (arith, e) in
           ap (λ (t : Bool). t && true)
-          (register_outside l (DST_GPR of hi) (ap (λ (n : ℕ). is_among n l.gprs (128 - l.temps - l.gprs)) z ∙ h) (omega arith))
+          (register_outside l (DST_GPR of hi) (ap (λ (n : ℕ). is_among n (gap l.gprs (128 - l.temps - l.gprs))) z ∙ h) (omega arith))
       by true (suc r) e h = rw (eqb-suc-zero r)
 
   -- an instruction that the gaps let through breaks neither rule 12

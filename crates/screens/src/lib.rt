@@ -6,7 +6,7 @@
 #![tactic(auto)]
 
 ghost use Rattle.std.specs.Prelude.{◌≡◌};
-ghost use Rattle.screens.specs.Code.{by_row, starts_of, widths_of, is_among, in_gap, writes_gap, bad_modes, asks_literal, is_second, asks_second, more_literals, broken_by};
+ghost use Rattle.screens.specs.Code.{gap, by_row, gaps_of, is_among, in_gap, writes_gap, bad_modes, asks_literal, is_second, asks_second, more_literals, broken_by};
 
 use bits::{Bits, field, read};
 use formats::fields;
@@ -28,71 +28,82 @@ const REFUSED_MODES: u32 = 0xE0E0_FFE0;
 // A destination's register and, above it, its relative bit.
 const DESTINATION: Bits = Bits(fields::DST_REL.0, fields::DST_GPR.1);
 
-// A number for each row: registers, the two sets of locked constants, what is reserved among the inline constants, the constant
+// The numbers of a row that these rules refuse: `width` of them, from `start` on.
+#[derive(Clone, Copy)]
+pub struct Gap {
+    pub start: u32,
+    pub width: u32,
+}
+
+fn gap_from(start: u32, width: u32) -> Gap
+    ensures { result ≡ gap start width }
+{
+    Gap { start, width }
+}
+
+// A gap for each row: registers, the two sets of locked constants, what is reserved among the inline constants, the constant
 // file; then, with REL set, the inline constants.
-fn by_row(regs: u32, set0: u32, set1: u32, inline: u32, consts: u32, rel: u32) -> [u32; 32]
+fn by_row(regs: Gap, set0: Gap, set1: Gap, inline: Gap, consts: Gap, rel: Gap) -> [Gap; 32]
     ensures { result ≡ by_row regs set0 set1 inline consts rel }
 {
+    let none = gap_from(0, 0);
     [
         regs, regs, regs, regs, set0, set1, inline, inline, consts, consts, consts, consts, consts,
-        consts, consts, consts, 0, 0, 0, 0, 0, 0, rel, rel, 0, 0, 0, 0, 0, 0, 0, 0,
+        consts, consts, consts, none, none, none, none, none, none, rel, rel, none, none, none,
+        none, none, none, none, none,
     ]
 }
 
-// Where the gaps start.
-#[tactic(auto, unfolding(crate::specs::Code::starts_of))]
-pub fn gap_starts(limits: Limits) -> [u32; 32]
-    ensures { result ≡ starts_of limits }
+// The gaps, by what a program is granted.
+#[tactic(auto, unfolding(crate::specs::Code::gaps_of))]
+pub fn gaps(limits: Limits) -> [Gap; 32]
+    ensures { result ≡ gaps_of limits }
 {
-    let set0 = 128 + grants::locked_by(limits.mode0);
-    let set1 = 160 + grants::locked_by(limits.mode1);
-    let constants = 256 + limits.consts.min(256);
-    by_row(limits.gprs, set0, set1, 192, constants, 704)
-}
-
-// How many values they have.
-#[tactic(auto, unfolding(crate::specs::Code::widths_of))]
-pub fn gap_widths(limits: Limits) -> [u32; 32]
-    ensures { result ≡ widths_of limits }
-{
-    let registers = 128u32
+    let left = 128u32
         .saturating_sub(limits.temps)
         .saturating_sub(limits.gprs);
-    let set0 = 32 - grants::locked_by(limits.mode0);
-    let set1 = 32 - grants::locked_by(limits.mode1);
-    let constants = 256 - limits.consts.min(256);
-    by_row(registers, set0, set1, 56, constants, 64)
+    let locked0 = grants::locked_by(limits.mode0);
+    let locked1 = grants::locked_by(limits.mode1);
+    let consts = limits.consts.min(256);
+    by_row(
+        gap_from(limits.gprs, left),
+        gap_from(128 + locked0, 32 - locked0),
+        gap_from(160 + locked1, 32 - locked1),
+        gap_from(192, 56),
+        gap_from(256 + consts, 256 - consts),
+        gap_from(704, 64),
+    )
 }
 
-// Whether x is one of the `width` numbers from `start` on.
+// Whether x is one of a gap's numbers.
 #[tactic(auto, using(crate::proofs::OfGaps::wrapped), unfolding(crate::specs::Code::is_among))]
-fn is_among(x: u32, start: u32, width: u32) -> bool
-    ensures { result ≡ is_among x start width }
+fn is_among(x: u32, gap: Gap) -> bool
+    ensures { result ≡ is_among x gap }
 {
-    x.wrapping_sub(start) < width
+    x.wrapping_sub(gap.start) < gap.width
 }
 
-// Whether a value lies in a gap.
+// Whether a value lies in the gap of its row.
 #[tactic(auto, unfolding(crate::specs::Code::in_gap))]
-fn in_gap(starts: &[u32; 32], widths: &[u32; 32], x: u32) -> bool
-    ensures { result ≡ in_gap starts.now widths.now x }
+fn in_gap(gaps: &[Gap; 32], x: u32) -> bool
+    ensures { result ≡ in_gap gaps.now x }
 {
     let row = (x / 32 % 32) as usize;
-    is_among(x, starts[row], widths[row])
+    is_among(x, gaps[row])
 }
 
 // Whether the destination is a register in the gap of registers, and written. Its relative bit makes it a number behind that gap, and so is what
 // stands for one that is not written.
 #[tactic(auto, unfolding(crate::specs::Code::writes_gap))]
-fn writes_gap(starts: &[u32; 32], widths: &[u32; 32], high: u32) -> bool
-    ensures { result ≡ writes_gap starts.now widths.now high }
+fn writes_gap(gaps: &[Gap; 32], high: u32) -> bool
+    ensures { result ≡ writes_gap gaps.now high }
 {
     let register = if is_written(high) {
         read(high, DESTINATION)
     } else {
         255
     };
-    is_among(register, starts[0], widths[0])
+    is_among(register, gaps[0])
 }
 
 // Whether PRED_SEL is 1 or INDEX_MODE above 4.
@@ -105,23 +116,23 @@ fn has_bad_modes(low: u32) -> bool
 
 // Whether the instruction breaks rule 12 or 15, by the gaps.
 #[tactic(auto, unfolding(crate::specs::Code::broken_by))]
-pub fn breaks_alone(starts: &[u32; 32], widths: &[u32; 32], low: u32, high: u32) -> bool
-    ensures { result ≡ broken_by starts.now widths.now low high }
+pub fn breaks_alone(gaps: &[Gap; 32], low: u32, high: u32) -> bool
+    ensures { result ≡ broken_by gaps.now low high }
 {
     let modes = has_bad_modes(low);
     let swizzle = 5 < read(high, fields::BANK_SWIZZLE);
     if modes | swizzle {
         return true;
     }
-    let first = in_gap(starts, widths, read(low, SOURCE0));
-    let second = in_gap(starts, widths, read(low, SOURCE1));
+    let first = in_gap(gaps, read(low, SOURCE0));
+    let second = in_gap(gaps, read(low, SOURCE1));
     if first | second {
         return true;
     }
-    if in_gap(starts, widths, read(third_word(low, high), SOURCE2)) {
+    if in_gap(gaps, read(third_word(low, high), SOURCE2)) {
         return true;
     }
-    writes_gap(starts, widths, high)
+    writes_gap(gaps, high)
 }
 
 // Whether a source is 253, a literal, without its relative bit; with it rule 12 is broken.

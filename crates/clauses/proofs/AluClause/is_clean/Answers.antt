@@ -23,7 +23,7 @@ breaks_14-requires c =
     let end = ended s.words.now s.start s.slots (search rules) s.inside c.slot_quadword-end.ensures in
     let here : c.loop-at.at < s.start.0 + s.slots.0 = omega (arith, end, c.loop-at-test.true) in
     glancing-ends s.limits c.is_pixel-pixel.result s.words.now s.start s.slots (c.loop-at.invariant (omega (arith, here))) here refl refl
-    c.class_code-code.ensures c.unit_of-unit.ensures c.gap_starts-starts.ensures c.gap_widths-widths.ensures
+    c.class_code-code.ensures c.unit_of-unit.ensures c.gaps-gaps.ensures
     c.is_wrong.ensures c.if-is_wrong.false c.more_literals-literals.ensures c.with_one-more.ensures s.inside
 
 pub loop-at-preserved : goal.loop-at-preserved
@@ -32,7 +32,7 @@ loop-at-preserved c fits =
     let end = ended s.words.now s.start s.slots (search rules) s.inside c.slot_quadword-end.ensures in
     let here : c.loop-at.at < s.start.0 + s.slots.0 = omega (arith, end, c.loop-at-test.true) in
     glancing-step s.limits c.is_pixel-pixel.result s.words.now s.start s.slots (c.loop-at.invariant (omega (arith, here))) here refl refl
-    c.class_code-code.ensures c.unit_of-unit.ensures c.gap_starts-starts.ensures c.gap_widths-widths.ensures c.is_wrong.ensures c.if-is_wrong.false c.more_literals-literals.ensures c.with_one-more.ensures
+    c.class_code-code.ensures c.unit_of-unit.ensures c.gaps-gaps.ensures c.is_wrong.ensures c.if-is_wrong.false c.more_literals-literals.ensures c.with_one-more.ensures
     c.read-last.ensures (omega (arith, c.read-last.ensures)) c.only_if.ensures c.only_if-issued.ensures
     (λ i. c.is_pixel-pixel.result && eqb (c.loop-at.at + 1 + c.only_if.result) (end i)) c.breaks_14.ensures c.if-breaks_14.false refl
     c.kept-seen.ensures fits
