@@ -87,14 +87,7 @@ fn unit_of(taken: u32, code: u32, high: u32) -> u32
 
 // Rules 11, 12, 13 and 15.
 #[tactic(auto, unfolding(crate::specs::CodeScreen::is_wrong))]
-fn is_wrong(
-    gaps: &[Gap; 32],
-    taken: u32,
-    code: u32,
-    unit: u32,
-    low: u32,
-    high: u32,
-) -> bool
+fn is_wrong(gaps: &[Gap; 32], taken: u32, code: u32, unit: u32, low: u32, high: u32) -> bool
     ensures { result ≡ is_wrong gaps.now taken code unit low high }
 {
     if screens::breaks_alone(gaps, low, high) {
