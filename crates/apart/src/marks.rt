@@ -10,7 +10,8 @@ use units::{Quadwords, Words};
 const MOST_QUADWORDS: usize = 8192;
 
 // The first place, in a section that ends at pair `end`, whose clause is not apart from those before it or does not lie in the words; the
-// place behind the section where there is none. Few packs are long, and clearing the marks of a long one costs more than judging a short one.
+// place behind the section where there is none (no Option: `FirstNotApart` says both of one number). Few packs are long, and clearing the marks
+// of a long one costs more than judging a short one.
 // Few packs come here at all, so that it stays out of the judge's loop over pairs, and its marks off the stack there.
 #[cold]
 #[inline(never)]

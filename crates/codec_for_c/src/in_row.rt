@@ -37,7 +37,7 @@ pub(crate) trait Lift: InRow {
         ensures { result ≡ word_of Self.table (Self.values self) };
 }
 
-// The form and the records of two words over the beginning of a row.
+// The form and the records of two words over the beginning of a row. What fits is each form's own sum, which no law of one word could say.
 pub(crate) fn put_two<A: InRow, B: InRow>(form: u32, a: A, b: B, row: &mut Row)
     requires { A.COUNT + B.COUNT ≤ 31 }
     ensures { row.new ≡ written (form ∷ A.row_values a ++ B.row_values b) row.old }

@@ -22,7 +22,7 @@ use microcode::{EncodeError, Stream};
 pub use pair_rows::{decode_row, encode_row};
 use units::Words;
 
-// A row has as many elements, whatever its form.
+// A row has as many elements, whatever its form. C has a function for pairs and one for fetches, each by its name (include/zlatomruk.h).
 pub type Row = [u32; 32];
 
 // The pair at word `start`, control flow where `stream` is 0 and ALU where it is 1, as values. 21 where it is neither; 2, 4 and 11 are the

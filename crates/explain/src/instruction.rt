@@ -17,7 +17,7 @@ use units::{Quadwords, Slots, Words};
 pub(crate) trait Pack {
     ghost words: { Self → List ℕ };
 
-    // A word by its number; 0 where there is none, as where a number was cut to 64 bits.
+    // A word by its number; 0 where there is none, as where a number was cut to 64 bits (0 and no Option, as `get_or` has it).
     fn word(&self, i: Words) -> u32
         ensures { (n : ℕ) → i.0 ≡ capped n → result ≡ get_or (words self.now) n 0 };
 }

@@ -43,7 +43,7 @@ pub fn fetch_clause(
     Ok(())
 }
 
-// The first of rules 8 and 9 that a fetch breaks, by its first quadword.
+// The first of rules 8 and 9 that a fetch breaks, a number as in `checks::Refusal` and for its reason, by its first quadword.
 #[tactic(auto, unfolding(units::specs::Units::low_at, units::specs::Units::high_at))]
 fn broken_rule(kind: FetchKind, limits: Limits, words: &[u32], fetch: Quadwords) -> Option<u8>
     requires { 2 * fetch.0 + 3 < length words.now }

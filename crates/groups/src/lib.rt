@@ -47,7 +47,7 @@ pub struct Seen {
     pub issues: Issues,
 }
 
-// What a group breaks, and how many slots behind its first.
+// What a group breaks, by its number as in `checks::Refusal` and for its reason, and how many slots behind its first.
 #[derive(Clone, Copy, Debug, PartialEq, Eq)]
 pub struct GroupFault {
     pub rule: u8,

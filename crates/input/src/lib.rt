@@ -125,6 +125,7 @@ fn without_card(line: BadLine) -> Judged
     }
 }
 
+// Rule 1. No From can stand here, as both types are other crates'.
 fn bad_line(line: BadLine) -> Refusal
     ensures { result ≡ refusal 1 (Line line.0) 0 }
 {

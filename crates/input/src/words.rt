@@ -23,13 +23,14 @@ pub fn store(words: &[u32], bytes: &mut [u8])
     ensures { bytes.new ≡ stored_in words.now bytes.old }
 {
     let n = words.len().min(bytes.len() / 4);
+    // By their numbers, as in `load`.
     for i in 0..n {
         let word = words[i];
         bytes[i * 4..i * 4 + 4].copy_from_slice(&word.to_le_bytes());
     }
 }
 
-// A word of a pack in bytes by its number; 0 where there is none, as where a number was cut to 64 bits.
+// A word of a pack in bytes by its number; 0 where there is none, as where a number was cut to 64 bits (0 and no Option, as `get_or` has it).
 pub fn word_of(bytes: &[u8], i: Words) -> u32
     ensures value { result ≡ get_or (words_in bytes.now) i.0 0 }
     ensures by_index { (n : ℕ) → i.0 ≡ capped n → result ≡ get_or (words_in bytes.now) n 0 }

@@ -49,7 +49,7 @@ pub fn judge_bytes(bytes: &[u8], words: &[u32]) -> Verdict
     }
 }
 
-// Rule 1.
+// Rule 1. No From can stand here, as both types are other crates'.
 fn bad_card(line: BadLine) -> Refusal
     ensures { result ≡ refusal 1 (places.Line line.0) 0 }
 {

@@ -175,7 +175,7 @@ pub fn more_literals(so_far: u32, low: u32, high: u32) -> u32
     ensures { result ≡ more_literals so_far low high }
 {
     if asks_literal(low, high) {
-        return so_far.max(if asks_second(low, high) { 2 } else { 1 });
+        return so_far.max(1 + asks_second(low, high) as u32);
     }
     so_far
 }

@@ -92,7 +92,7 @@ pub fn searched_pairs(words: &[u32]) -> Quadwords
     units::whole_quadwords(Words(words.len())).min(Quadwords(MOST_PAIRS))
 }
 
-// The paper's end, e; where there is none, the number of pairs searched, which is rule 3.
+// The paper's end, e; where there is none, the number of pairs searched, which is rule 3 (a number and no Option, as `end_of` is one).
 pub fn find_end(words: &[u32]) -> Quadwords
     ensures { result ≡ quadwords (end_of words.now) }
 {

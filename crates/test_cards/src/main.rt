@@ -102,7 +102,7 @@ fn run(out: &impl Print, cases: &[u8]) -> io::Result<()> {
 }
 
 // Reads until the input ends or the room is full, and answers how many bytes stand in the room. A turn reads as many as the input gives, so the
-// count is the input's to move, and no iterator's.
+// count is the input's to move, and no iterator's. (As `console::read_all`, above which crate no test of `card` should stand.)
 fn read_full(input: &mut impl Read, room: &mut [u8]) -> io::Result<usize>
     ensures { IfOk result (λ n. n ≤ length room.new) }
 {
