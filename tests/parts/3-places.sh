@@ -31,7 +31,7 @@ answers "a pack that can't be read" 2 as_nobody "$copy/judge" "$card" "$work/sec
 chmod -R u+w "$copy"
 
 # A source that was changed and has an old time: the program is not of it any more.
-sed -i 's/release=no/release=on/' "$copy/crates/report/src/lib.rt"
+sed -i 's/"release="/"Release="/' "$copy/crates/report/src/lib.rt"
 touch -d 2001-01-01 "$copy/crates/report/src/lib.rt"
 answers "a changed source with an old time" 2 without_kit "$copy/judge" "$card" "$pack"
 # It would be proved now, if nobody else were at it.
