@@ -1,5 +1,5 @@
 // A pack's bytes as words, and words as its bytes.
-ghost use Rattle.std.specs.Prelude.{◌≡◌, ◌++◌, ℕ, ◌+◌, ◌/◌, ◌<◌, ◌≤◌, min, length, take, drop, get_or};
+ghost use Rattle.std.specs.Prelude.{◌≡◌, ◌++◌, ℕ, ◌+◌, ◌/◌, ◌≤◌, min, length, take, drop, get_or};
 ghost use Rattle.units.specs.Code.{capped};
 ghost use Rattle.input.specs.Words.{words_in, word_at, stored_in};
 
@@ -42,18 +42,10 @@ pub fn word_of(bytes: &[u8], i: Words) -> u32
     }
 }
 
-// The word whose lowest byte stands at a place. By arithmetic: of `u32::from_le_bytes` in a loop the compiler makes a call of memcpy, and the archive for
-// C needs memset alone (include/zlatomruk.h).
+// The word whose lowest byte stands at a place.
 fn word_at(bytes: &[u8], at: usize) -> u32
     requires { at + 4 ≤ length bytes.now }
     ensures { result ≡ word_at bytes.now at }
 {
-    let low = wide(bytes[at]) + wide(bytes[at + 1]) * 0x100;
-    low + wide(bytes[at + 2]) * 0x1_0000 + wide(bytes[at + 3]) * 0x100_0000
-}
-
-fn wide(b: u8) -> u32
-    ensures { (result ≡ b) × (result < 256) }
-{
-    u32::from(b)
+    u32::from_le_bytes([bytes[at], bytes[at + 1], bytes[at + 2], bytes[at + 3]])
 }
