@@ -19,22 +19,28 @@ pub(crate) struct Teller<'a, R, E> {
 
 impl<R: Env, E: Write> Teller<'_, R, E> {
     // Argument i between two texts.
-    pub fn tell(&mut self, before: &str, i: usize, behind: &str) {
+    pub(crate) fn tell(&mut self, before: &str, i: usize, behind: &str) {
         let _ = write!(self.errors, "fetch: {before}");
         self.say_argument(i);
         let _ = writeln!(self.errors, "{behind}");
     }
 
-    pub fn tell_long(&mut self) {
+    pub(crate) fn tell_long(&mut self) {
         self.tell("more than 8192 quadwords: ", 3, "");
     }
 
-    pub fn tell_partial(&mut self) {
+    pub(crate) fn tell_partial(&mut self) {
         self.tell("not whole quadwords: ", 3, "");
     }
 
     // Why there is no fetch. Of rule 8 by its part: the number is not one of the kind's, or the fourth word is not 0.
-    pub fn tell_no_fetch(&mut self, why: DecodeError, clause: Clause, pack: &[u8], start: Words) {
+    pub(crate) fn tell_no_fetch(
+        &mut self,
+        why: DecodeError,
+        clause: Clause,
+        pack: &[u8],
+        start: Words,
+    ) {
         if why == DecodeError::Outside {
             self.tell("quadword ", 2, ": not in the pack");
             return;
@@ -52,7 +58,7 @@ impl<R: Env, E: Write> Teller<'_, R, E> {
     }
 
     // The setting that starts behind `at` bytes.
-    pub fn tell_setting(&mut self, settings: &[u8], at: usize, fault: Fault) {
+    pub(crate) fn tell_setting(&mut self, settings: &[u8], at: usize, fault: Fault) {
         let (line, _) = fetch_text::split_line(settings.get(at..).unwrap_or(&[]));
         let _ = write!(self.errors, "fetch: ");
         let _ = self.errors.write_all(line);
