@@ -6,6 +6,7 @@ pub mod OfNumbers
 pub mod OfRows
 pub mod OfCard
 pub mod OfDecimals
+pub mod OfShort
 pub mod OfWritten
 pub mod OfBehind
 pub mod OfCut

@@ -57,7 +57,7 @@ value_below (b ∷ t) h =
     subst (λ (n : ℕ). (b - 48) * 10 ^ length t + digits_value t < n) (sym (pow-succ' 10 (length t)))
     (digits_lt {q = b - 48} {m = 10} (omega arith) (value_below t w.1))
 
-value_above : (b : ℕ) (t : List ℕ) → 48 < b → 10 ^ length t ≤ digits_value (b ∷ t)
+pub value_above : (b : ℕ) (t : List ℕ) → 48 < b → 10 ^ length t ≤ digits_value (b ∷ t)
 unfolding digits_value
 value_above b t h =
     let p = 10 ^ length t in

@@ -1,18 +1,17 @@
 -- Keys and words: what it is to begin with one, and to be one. Assumes nothing.
 use mathlib.Core.Path.{◌≡◌, refl, ap, ap₂, sym, ◌∙◌}
-use mathlib.Core.Bool.{Bool, true, false, not, ◌&&◌, false≢true}
+use mathlib.Core.Bool.{Bool, true, false, cond, not, ◌&&◌, false≢true}
 use mathlib.Core.List.{List, [], ◌∷◌, ◌++◌}
 use Prim.Native.Nat.{ℕ, ◌≤◌}
 use native.Mathlib.Omega.{arith}
-use borrow.Author.Tests.{eqb-true, not-true}
+use borrow.Author.Tests.{eqb-true, eqb-false, ne_eqb, not-true}
 use lib.Dec.{eqb}
 use lib.ListN.{length, take, drop}
 use Rattle.std.specs.Cmp.Lexicographic.{pointwise}
-use Rattle.laws.proofs.OfTests.{both}
-use Rattle.std.specs.Prelude.{Some, None}
+use Rattle.laws.proofs.OfTests.{both, by_test_lem}
+use Rattle.std.specs.Prelude.{Option, Some, None, option_map}
 use Rattle.card.specs.Text.{found, line_feed, first_line, behind_first, behind, line_of, begins_with, same_as, value_of, value_at}
 use Rattle.ascii.specs.Code.{feedless}
-use Rattle.card.proofs.OfLines.{feed_at, no_line, line_there}
 
 -- the library's test for a prefix
 pub begins_as : (key t : List ℕ) → pointwise eqb (take (length key) t) key ≡ begins_with key t
@@ -66,22 +65,61 @@ behind_joined (b ∷ l) t h =
 
 -- ---- the value of the first line
 
-module _ (key s : List ℕ) where
-  first_value : value_at 1 key s ≡ found (first_line s) (value_of key)
+-- a byte that is a line feed is none of the key's
+feed_other : (b k : ℕ) → not (eqb k line_feed) ≡ true → eqb b line_feed ≡ true → eqb b k ≡ false
+feed_other b k f e =
+    let g = eqb-false k line_feed (not-true (eqb k line_feed) f) in
+    ne_eqb b k (λ p. g (sym p ∙ eqb-true b line_feed e))
+
+-- by the bytes: the first line of what stands behind the key
+key_line : (key t : List ℕ) → feedless key ≡ true
+    → found (first_line t) (value_of key) ≡ cond (begins_with key t) (first_line (drop (length key) t)) None
+unfolding first_line begins_with value_of
+key_line [] t f = by (first_line t)
+  where
+    by : (o : Option (List ℕ)) → found o (λ l. Some l) ≡ o
+    by None = refl
+    by (Some l) = refl
+key_line (k ∷ key) [] f = refl
+key_line (k ∷ key) (b ∷ t) f =
+    let w = both (not (eqb k line_feed)) (feedless key) f in
+    by_test_lem (eqb b line_feed) (λ e. ended (feed_other b k w.0 e) e) (λ e. by_test_lem (eqb b k) (more (key_line key t w.1) e) (other e))
+  where
+    Goal : Type 0
+    Goal = found (cond (eqb b line_feed) (Some []) (option_map (λ l. b ∷ l) (first_line t))) (value_of (k ∷ key))
+        ≡ cond (eqb b k && begins_with key t) (first_line (drop (length key) t)) None
+
+    ended : eqb b k ≡ false → eqb b line_feed ≡ true → Goal
+    ended g e = rw (e, g)
+
+    same : (o : Option (List ℕ)) → eqb b k ≡ true → found (option_map (λ l. b ∷ l) o) (value_of (k ∷ key)) ≡ found o (value_of key)
+    same None g = refl
+    same (Some l) g = rw g
+
+    differs : (o : Option (List ℕ)) → eqb b k ≡ false → found (option_map (λ l. b ∷ l) o) (value_of (k ∷ key)) ≡ None
+    differs None g = refl
+    differs (Some l) g = rw g
+
+    more : found (first_line t) (value_of key) ≡ cond (begins_with key t) (first_line (drop (length key) t)) None
+        → eqb b line_feed ≡ false → eqb b k ≡ true → Goal
+    more h e g = rw (e, same (first_line t) g, g) h
+
+    other : eqb b line_feed ≡ false → eqb b k ≡ false → Goal
+    other e g = rw (e, differs (first_line t) g, g)
+
+-- as the code finds it: the key first, and what stands behind it then
+module _ (key s : List ℕ) (f : feedless key ≡ true) where
+  by_key : value_at 1 key s ≡ cond (begins_with key s) (first_line (drop (length key) s)) None
   unfolding value_at line_of behind
-  first_value = refl
+  by_key = key_line key s f
 
-  pub value_unended : feed_at s ≡ None → value_at 1 key s ≡ None
-  value_unended h = first_value ∙ ap (λ o. found o (value_of key)) (no_line s h)
+  pub value_other : pointwise eqb (take (length key) s) key ≡ false → value_at 1 key s ≡ None
+  value_other e = by_key ∙ rw (sym (begins_as key s) ∙ e)
 
-  module _ (n : ℕ) (h : feed_at s ≡ Some n) where
-    of_line : value_at 1 key s ≡ value_of key (take n s)
-    of_line = first_value ∙ ap (λ o. found o (value_of key)) (line_there s n h).line
+  module _ (e : pointwise eqb (take (length key) s) key ≡ true) where
+    pub value_there : value_at 1 key s ≡ first_line (drop (length key) s)
+    value_there = by_key ∙ rw (sym (begins_as key s) ∙ e)
 
-    pub value_other : pointwise eqb (take (length key) (take n s)) key ≡ false → value_at 1 key s ≡ None
-    unfolding value_of
-    value_other e = of_line ∙ rw (sym (begins_as key (take n s)) ∙ e)
-
-    pub value_there : pointwise eqb (take (length key) (take n s)) key ≡ true → value_at 1 key s ≡ Some (drop (length key) (take n s))
-    unfolding value_of
-    value_there e = of_line ∙ rw (sym (begins_as key (take n s)) ∙ e)
+    pub behind_there : behind_first s ≡ behind_first (drop (length key) s)
+    behind_there =
+        ap behind_first (begins_text key s (sym (begins_as key s) ∙ e)) ∙ behind_joined key (drop (length key) s) f

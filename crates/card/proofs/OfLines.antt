@@ -48,7 +48,7 @@ passed_all t i h w = omega (arith, w, end_within t)
 -- ---- the first line, and what stands behind it
 
 -- the line is what stands before the line feed
-first_end : (t : List ℕ) → first_line t ≡ cond (ltb (line_end t) (length t)) (Some (take (line_end t) t)) None
+pub first_end : (t : List ℕ) → first_line t ≡ cond (ltb (line_end t) (length t)) (Some (take (line_end t) t)) None
 unfolding line_end first_line
 first_end [] = refl
 first_end (b ∷ t) = by (eqb b line_feed) (first_end t)
@@ -88,7 +88,7 @@ behind_end (b ∷ t) = by (eqb b line_feed) (behind_end t)
 abbrev pub feed_at : List ℕ → Option ℕ
 feed_at t = position (λ b. eqb b line_feed) t
 
-feed_lem : (t : List ℕ) → feed_at t ≡ cond (ltb (line_end t) (length t)) (Some (line_end t)) None
+pub feed_lem : (t : List ℕ) → feed_at t ≡ cond (ltb (line_end t) (length t)) (Some (line_end t)) None
 feed_lem t = ap (λ (n : ℕ). cond (ltb n (length t)) (Some n) None) (end_place t)
 
 pub no_line : (t : List ℕ) → feed_at t ≡ None → first_line t ≡ None

@@ -1,5 +1,5 @@
 -- What private functions ask and answer. The public contracts need none of it.
-use Rattle.std.specs.Prelude.{ℕ, Bool, true, false, List, [], ◌∷◌, eqb}
+use Rattle.std.specs.Prelude.{ℕ, Bool, true, false, cond, Option, Some, None, List, [], ◌∷◌, eqb, leb, length}
 use Prim.Native.Char.{code}
 use Rattle.card.specs.declared.Kind.{Kind}
 use Rattle.card.specs.declared.Kind.TheVariants.{Pixel, Vertex, Geometry}
@@ -17,3 +17,8 @@ abbrev pub malformed : List ℕ → Bool
 malformed [] = true
 malformed (b ∷ []) = false
 malformed (b ∷ c ∷ t) = eqb b (code "0")
+
+-- a value, unless it is longer than any that is right
+abbrev pub short : Option (List ℕ) → Option (List ℕ)
+short None = None
+short (Some v) = cond (leb (length v) 10) (Some v) None

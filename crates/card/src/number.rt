@@ -4,6 +4,7 @@ ghost use Rattle.card.specs.Text.{number_in, of_32_bits};
 ghost use Rattle.card.specs.Code.{malformed};
 
 // The number of 32 bits that a whole text is, in decimal without leading zeros or signs.
+#[inline(always)]
 pub fn read_number(text: &[u8]) -> Option<u32>
     ensures { result ≡ number_in of_32_bits text.now }
 {

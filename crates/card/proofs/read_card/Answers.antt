@@ -8,7 +8,9 @@ use Rattle.card.specs.declared.Kind.{Kind}
 use Rattle.card.specs.declared.Build.{Build}
 use Rattle.card.proofs.OfFound.{refused_with}
 use Rattle.card.proofs.OfLines.{behind_less}
-use Rattle.card.proofs.OfRows.{kind_said, kind_found, build_said, build_found, row_said, row_value, row_missing, row_next, row_first, goes_on, stops, past_1, past_2, past_3, past_4, past_5, past_6, past_7, card_lines_lem, alone_wrong, together_wrong, together_right}
+use Rattle.card.specs.Code.{short}
+use Rattle.card.proofs.OfShort.{long_word}
+use Rattle.card.proofs.OfRows.{kind_said, kind_found, build_said, build_found, row_said, row_value, row_next, row_first, goes_on, stops, past_1, past_2, past_3, past_4, past_5, past_6, past_7, card_lines_lem, alone_wrong, together_wrong, together_right}
 use Rattle.card.proofs.read_card.Goals as goal
 
 -- what a line says of a text, and what stands behind it
@@ -23,8 +25,10 @@ key_of name = name ++ text "="
 
 -- line by line, what the code found, and what the card is then
 module _ (s : List ℕ) where
-  wrong_1 : value_at 1 (key_of (text "kind")) s ≡ None → BadAt 1 ≡ card_of s
-  wrong_1 h = sym (card_lines_lem s ∙ stops 1 _ _ (row_missing s 0 (row_first s) (key_of (text "kind")) (word_in kinds) h))
+  wrong_1 : short (value_at 1 (key_of (text "kind")) s) ≡ None → BadAt 1 ≡ card_of s
+  wrong_1 h =
+      sym (card_lines_lem s ∙ stops 1 _ _
+      (row_said s 0 (row_first s) (key_of (text "kind")) (word_in kinds) (long_word kinds (value_at 1 (key_of (text "kind")) s) (omega arith, (omega arith, (omega arith, tt))) h)))
 
   module _ {word rest_1 : List ℕ} (v_1 : Says s (key_of (text "kind")) word rest_1) where
     at_1 : rest_1 ≡ behind 1 s
@@ -40,8 +44,10 @@ module _ (s : List ℕ) where
           card_lines_lem s
           ∙ goes_on 1 _ (λ x. past_1 s (card_with x)) (row_value s 0 (row_first s) (key_of (text "kind")) (word_in kinds) v_1.0 (sym (k ∙ kind_found word)))
 
-      wrong_2 : value_at 1 (key_of (text "build")) rest_1 ≡ None → BadAt 2 ≡ card_of s
-      wrong_2 h = sym (up_1 ∙ stops 2 _ _ (row_missing s 1 at_1 (key_of (text "build")) (word_in builds) h))
+      wrong_2 : short (value_at 1 (key_of (text "build")) rest_1) ≡ None → BadAt 2 ≡ card_of s
+      wrong_2 h =
+          sym (up_1 ∙ stops 2 _ _
+          (row_said s 1 at_1 (key_of (text "build")) (word_in builds) (long_word builds (value_at 1 (key_of (text "build")) rest_1) (omega arith, (omega arith, tt)) h)))
 
       module _ {word_2 rest_2 : List ℕ} (v_2 : Says rest_1 (key_of (text "build")) word_2 rest_2) where
         at_2 : rest_2 ≡ behind 2 s

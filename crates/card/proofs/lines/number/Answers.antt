@@ -1,9 +1,17 @@
 -- `card::lines::number` meets its contract: the value is a number within limits, or not. Assumes nothing.
 use Rattle.std.proofs.Common.{sym, ◌∙◌, refl, arith}
 use Rattle.std.proofs.lemmas.Result.{err_from_is_err_and}
+use Rattle.card.specs.Text.{value_at}
 use Rattle.card.proofs.OfFound.{refused_with}
 use Rattle.card.proofs.OfNumbers.{within_some, within_not, within_none}
+use Rattle.card.proofs.OfShort.{long_number}
 use Rattle.card.proofs.lines.number.Goals as goal
+
+pub returns-in_err-text : goal.returns-in_err-text
+returns-in_err-text c =
+    let p = err_from_is_err_and c.from_residual.result c.from_residual.ensures.1 in
+    rw (p.1, p.2, c.in_err-text.ensures.1)
+    (long_number (value_at 1 c.args.key.now c.args.bytes.now) c.args.limits.low c.args.limits.high (omega arith) c.in_err-text.ensures.0, refl)
 
 pub returns-in_err-n : goal.returns-in_err-n
 returns-in_err-n c =

@@ -1,35 +1,45 @@
--- `card::lines::value` meets its contract: a line feed is found or not, and the line begins with the key or not. Assumes nothing.
-use Rattle.std.proofs.Common.{ap, sym, ◌∙◌, ◌+◌, Some}
+-- `card::lines::value` meets its contract: the bytes begin with the key or not, and a line feed is found behind it or not. Assumes nothing.
+use Rattle.std.proofs.Common.{ap, sym, ◌∙◌, ◌≡◌, ◌+◌, Some, true, length, take}
+use lib.ListN.{drop}
+use Rattle.std.specs.Cmp.Lexicographic.{pointwise}
+use lib.Dec.{eqb}
 use Rattle.std.proofs.lemmas.Result.{err_from_is_err_and}
 use Rattle.std.proofs.lemmas.Option.{MatchOption-at_none, MatchOption-at_some}
 use Rattle.laws.proofs.OfLists.{to_the_end}
-use Rattle.card.proofs.OfLines.{line_there}
-use Rattle.card.proofs.OfKeys.{value_unended, value_other, value_there}
+use Rattle.card.specs.Text.{first_line, behind_first}
+use Rattle.card.specs.Code.{short}
+use Rattle.card.proofs.OfLines.{feed_at, line_there}
+use Rattle.card.proofs.OfKeys.{value_other, value_there, behind_there}
+use Rattle.card.proofs.OfShort.{feed_found, feed_missing}
 use Rattle.card.proofs.OfFound.{refused_with}
 use Rattle.card.proofs.lines.value.Goals as goal
 
+pub returns-in_err-behind : goal.returns-in_err-behind
+returns-in_err-behind c =
+    let p = err_from_is_err_and c.from_residual.result c.from_residual.ensures.1 in
+    let nothing = c.in_err-behind.ensures.ok_part in
+    rw (p.1, p.2) (
+      ap short (value_other c.args.key.now c.args.bytes.now c.requires (MatchOption-at_none _ _ nothing c.strip_prefix.ensures.cases)),
+      refused_with c.strip_prefix.result nothing c.in_err-behind.ensures.value,
+    )
+
 pub returns-in_err-end : goal.returns-in_err-end
 returns-in_err-end c =
-    let p = err_from_is_err_and c.from_residual.result c.from_residual.ensures.1 in
+    let w = MatchOption-at_some _ _ c.in_ok-behind.behind c.in_ok-behind.ensures.ok_part c.strip_prefix.ensures.cases in
+    let p = err_from_is_err_and c.from_residual-in_err-end.result c.from_residual-in_err-end.ensures.1 in
     let nothing = c.in_err-end.ensures.ok_part in
-    rw (p.1, p.2)
-    (value_unended c.args.key.now c.args.bytes.now (sym c.line_feed.ensures ∙ nothing), refused_with c.line_feed.result nothing c.in_err-end.ensures.value)
-
-pub returns-in_err-value : goal.returns-in_err-value
-returns-in_err-value c =
-    let p = err_from_is_err_and c.from_residual-in_err-value.result c.from_residual-in_err-value.ensures.1 in
-    let nothing = c.in_err-value.ensures.ok_part in
     rw (p.1, p.2) (
-      value_other c.args.key.now c.args.bytes.now c.in_ok-end.end (sym c.line_feed.ensures ∙ c.in_ok-end.ensures.ok_part)
-          (MatchOption-at_none _ _ nothing c.strip_prefix.ensures.cases),
-      refused_with c.strip_prefix.result nothing c.in_err-value.ensures.value,
+      ap short (value_there c.args.key.now c.args.bytes.now c.requires w.0)
+          ∙ feed_missing (drop (length c.args.key.now) c.args.bytes.now) (ap (λ l. feed_at (take 11 l)) (sym w.1) ∙ sym c.line_feed.ensures ∙ nothing),
+      refused_with c.line_feed.result nothing c.in_err-end.ensures.value,
     )
 
 pub returns : goal.returns
 returns c =
-    let s = c.args.bytes.now in
-    let found-it = sym c.line_feed.ensures ∙ c.in_ok-end.ensures.ok_part in
-    let w = MatchOption-at_some _ _ c.in_ok-value.value c.in_ok-value.ensures.ok_part c.strip_prefix.ensures.cases in (
-      value_there c.args.key.now s c.in_ok-end.end found-it w.0 ∙ ap Some (sym w.1),
-      to_the_end (c.in_ok-end.end + 1) s ∙ sym (line_there s c.in_ok-end.end found-it).rest,
+    let w = MatchOption-at_some _ _ c.in_ok-behind.behind c.in_ok-behind.ensures.ok_part c.strip_prefix.ensures.cases in
+    let t = c.in_ok-behind.behind.now in
+    let found-it = feed_found t c.in_ok-end.end (sym c.line_feed.ensures ∙ c.in_ok-end.ensures.ok_part) in
+    let e = line_there t c.in_ok-end.end found-it in (
+      value_there c.args.key.now c.args.bytes.now c.requires w.0 ∙ ap first_line (sym w.1) ∙ e.line,
+      to_the_end (c.in_ok-end.end + 1) t ∙ sym e.rest ∙ ap behind_first w.1 ∙ sym (behind_there c.args.key.now c.args.bytes.now c.requires w.0),
     )
