@@ -161,14 +161,23 @@ fn fetch_clause(low: u32, high: u32, kind: FetchKind) -> Clause
     }
 }
 
-// Rule 6.
+// Rule 6. (The two kinds part here, as in `apart::seen_with` and for its reason.)
 #[tactic(auto, using(crate::proofs::OfTests::capped_outside), unfolding(crate::specs::Rules::bad_range))]
 pub fn is_bad_range(end: Quadwords, quads: Quadwords, clause: Option<Clause>) -> bool
     ensures { result ≡ bad_range end quads clause }
 {
+    let Some(clause) = clause else {
+        return false;
+    };
     match clause {
-        None => false,
-        Some(clause) => is_outside(end, quads, clause.range()),
+        Clause::Alu { start, slots, .. } => {
+            let size = units::slots_length(slots);
+            is_outside(end, quads, Range { start, size })
+        }
+        Clause::Fetch { start, fetches, .. } => {
+            let size = units::fetches_length(fetches);
+            is_outside(end, quads, Range { start, size })
+        }
     }
 }
 
