@@ -2,7 +2,7 @@
  * (zlatomruk), and `tools/archive` writes target/libzlatomruk.a in a checkout. docs/USING.md has examples.
  *
  * Nothing is allocated, nothing is kept between calls and nothing is written but what an argument without const points to: every function may be
- * called from several threads at once. The only symbols that the archive needs are memcpy and memset. Any arguments get an answer.
+ * called from several threads at once. The only symbol that the archive needs is memset. Any arguments get an answer.
  *
  * What is proved holds of a caller who keeps this:
  * - Each pointer is aligned as its type asks and valid for as many ELEMENTS (not bytes) as the length behind it says; where the length is 0 it

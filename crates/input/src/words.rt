@@ -6,7 +6,9 @@ ghost use Rattle.input.specs.Words.{words_in, word_at, stored_in};
 use units::Words;
 
 // Puts the words of `bytes` at the start of `words`, as many as have room there, and answers how many they are. They are put by their
-// numbers: of what was written through `iter_mut` a proof knows no element.
+// numbers: of what was written through `iter_mut` a proof knows no element. Where the compiler took this in, beside the room that it fills, it would
+// make a call of memcpy of the loop, and the archive for C needs memset alone (include/zlatomruk.h).
+#[inline(never)]
 pub fn load(bytes: &[u8], words: &mut [u32]) -> usize
     ensures value { result ≡ min (length bytes.now / 4) (length words.old) }
     ensures words_after { words.new ≡ take result (words_in bytes.now) ++ drop result words.old }
