@@ -1,5 +1,5 @@
--- Files read into a room. What a file gives is for the system to say: of one only how much of the room it takes is said here; of a reader whose
--- bytes are known, that they stand in the room.
+-- Files read into a room. What a file gives is for the system to say: of one only how much of the room it takes is said, in src/files.rt; of a reader
+-- whose bytes are known, that they stand in the room.
 use Rattle.std.specs.Prelude.{ℕ, ◌<◌, ◌≤◌, ⊤, Option, Some, None, List, length, take}
 use Rattle.std.specs.Io.KnownBytes.{Keeps, Consumes, IsAtEnd}
 

@@ -133,12 +133,20 @@ fn or_told<E: Write>(
     }
 }
 
-// Writes a line to standard error: what failed, and the system's reason. Where that can't be written it is lost.
+// Writes a line to standard error: what failed, and the system's reason. What of it can't be written is lost, and the rest is written all the same:
+// a macro for the line would end at its first part that fails.
 pub(crate) fn tell(errors: &mut impl Write, tool: Tool, what: &[u8], reason: Error) {
     let text = InlineText::<120>::of(reason);
-    let _ = write!(errors, "{tool}: ");
-    let _ = errors.write_all(what);
-    let _ = writeln!(errors, ": {}", without_number(text.as_str()));
+    let _ = write!(errors, "{tool}");
+    say(errors, b": ");
+    say(errors, what);
+    say(errors, b": ");
+    say(errors, without_number(text.as_str()).as_bytes());
+    say(errors, b"\n");
+}
+
+fn say(errors: &mut impl Write, text: &[u8]) {
+    let _ = errors.write_all(text);
 }
 
 // The system's own words: std puts its number of the error behind them.

@@ -22,7 +22,9 @@ pub(crate) fn quadword(rt: &impl Env) -> Option<u32> {
 }
 
 // Argument i, put at the start of a room: no bytes where it is missing or does not fit.
-pub(crate) fn argument<'a>(rt: &impl Env, i: usize, room: &'a mut [u8]) -> &'a [u8] {
+pub(crate) fn argument<'a>(rt: &impl Env, i: usize, room: &'a mut [u8]) -> &'a [u8]
+    ensures { length result.now ≤ length room.old }
+{
     match rt.arg(i, room) {
         Ok(n) => &room[..n],
         Err(_) => &[],

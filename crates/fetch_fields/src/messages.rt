@@ -1,4 +1,4 @@
-// What is wrong, a line on standard error.
+// What is wrong, a line on standard error. Each part of a line is written by itself, so that where one can't be written the others still are.
 use crate::arguments;
 use bits::read;
 use fetch_codec::Clause;
@@ -6,9 +6,21 @@ use fetch_text::Fault;
 use formats::fields;
 use microcode::DecodeError;
 use opcodes::cf::FetchKind;
+use std::fmt;
+use std::fmt::InlineText;
 use std::io::Write;
 use std::rt::Env;
 use units::Words;
+
+// What a setting's line ends with, as one part.
+#[derive(Clone, Copy)]
+struct LineEnd(Fault);
+
+impl fmt::Display for LineEnd {
+    fn fmt<W: fmt::Write>(&self, f: &mut fmt::Formatter<W>) -> fmt::Result {
+        write!(f, ": {}\n", self.0)
+    }
+}
 
 // Where messages go, and the arguments that they name. What can't be written is lost.
 #[derive(Drop)]
@@ -20,9 +32,11 @@ pub(crate) struct Teller<'a, R, E> {
 impl<R: Env, E: Write> Teller<'_, R, E> {
     // Argument i between two texts.
     pub(crate) fn tell(&mut self, before: &str, i: usize, behind: &str) {
-        let _ = write!(self.errors, "fetch: {before}");
+        self.say("fetch: ");
+        self.say(before);
         self.say_argument(i);
-        let _ = writeln!(self.errors, "{behind}");
+        self.say(behind);
+        self.say("\n");
     }
 
     pub(crate) fn tell_long(&mut self) {
@@ -50,19 +64,25 @@ impl<R: Env, E: Write> Teller<'_, R, E> {
             self.tell("quadword ", 2, ": its fourth word is not 0");
             return;
         }
-        let _ = write!(self.errors, "fetch: quadword ");
+        self.say("fetch: quadword ");
         self.say_argument(2);
-        let _ = write!(self.errors, ": ");
+        self.say(": ");
         self.say_argument(1);
-        let _ = writeln!(self.errors, " does not take number {number}");
+        self.say(" does not take number ");
+        let _ = write!(self.errors, "{number}");
+        self.say("\n");
     }
 
     // The setting that starts behind `at` bytes.
     pub(crate) fn tell_setting(&mut self, settings: &[u8], at: usize, fault: Fault) {
         let (line, _) = fetch_text::split_line(settings.get(at..).unwrap_or(&[]));
-        let _ = write!(self.errors, "fetch: ");
+        self.say("fetch: ");
         let _ = self.errors.write_all(line);
-        let _ = writeln!(self.errors, ": {fault}");
+        self.say(InlineText::<64>::of(LineEnd(fault)).as_str());
+    }
+
+    fn say(&mut self, text: &str) {
+        let _ = self.errors.write_all(text.as_bytes());
     }
 
     fn say_argument(&mut self, i: usize) {
