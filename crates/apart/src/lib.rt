@@ -48,8 +48,8 @@ pub fn is_odd_fetch(clause: Option<Clause>) -> bool
     }
 }
 
-// What is known with one clause more, in a section that ends at pair `end`. (The two kinds part here: of `Clause::range` the compiler makes a choice
-// of numbers, for which each pair of a section waits.)
+// What is known with one clause more, in a section that ends at pair `end`. (The two kinds part here, though both arms
+// are alike: of `Clause::range` for either the compiler makes a choice of numbers, for which each pair of a section waits.)
 pub fn seen_with(words: &[u32], end: Quadwords, seen: Seen, clause: Option<Clause>) -> Seen
     ensures { SeenWith words.now end.0 clause seen result }
 {
@@ -57,17 +57,19 @@ pub fn seen_with(words: &[u32], end: Quadwords, seen: Seen, clause: Option<Claus
         return seen;
     };
     match clause {
-        Clause::Alu { start, slots, .. } => {
-            let behind = units::range_end(start, units::slots_length(slots));
-            if is_clear(seen, start, behind) {
-                return up_to(seen, start, behind);
+        Clause::Alu { .. } => {
+            let range = clause.range();
+            let behind = units::range_end(range.start, range.size);
+            if is_clear(seen, range.start, behind) {
+                return up_to(seen, range.start, behind);
             }
             Seen::Asked(marks::first_not_apart(words, end))
         }
-        Clause::Fetch { start, fetches, .. } => {
-            let behind = units::range_end(start, units::fetches_length(fetches));
-            if is_clear(seen, start, behind) {
-                return up_to(seen, start, behind);
+        Clause::Fetch { .. } => {
+            let range = clause.range();
+            let behind = units::range_end(range.start, range.size);
+            if is_clear(seen, range.start, behind) {
+                return up_to(seen, range.start, behind);
             }
             Seen::Asked(marks::first_not_apart(words, end))
         }

@@ -170,14 +170,8 @@ pub fn is_bad_range(end: Quadwords, quads: Quadwords, clause: Option<Clause>) ->
         return false;
     };
     match clause {
-        Clause::Alu { start, slots, .. } => {
-            let size = units::slots_length(slots);
-            is_outside(end, quads, Range { start, size })
-        }
-        Clause::Fetch { start, fetches, .. } => {
-            let size = units::fetches_length(fetches);
-            is_outside(end, quads, Range { start, size })
-        }
+        Clause::Alu { .. } => is_outside(end, quads, clause.range()),
+        Clause::Fetch { .. } => is_outside(end, quads, clause.range()),
     }
 }
 
