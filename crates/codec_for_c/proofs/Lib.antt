@@ -5,4 +5,5 @@ pub mod OfValues
 pub mod OfFetches
 pub mod OfCodec
 pub mod OfFetchCodec
+pub mod OfParts
 pub mod Examples
