@@ -1,4 +1,4 @@
--- Values that are not too long: no value that is right is longer, and of those no line feed stands behind the first eleven bytes. Assumes nothing.
+-- Values that are not too long: no value that is right is longer, and of those no line feed stands behind the first bytes that the code reads. Assumes nothing.
 use mathlib.Core.Path.{◌≡◌, refl, ap, sym, ◌∙◌}
 use mathlib.Core.Bool.{Bool, true, false, cond, not, ◌&&◌, and-false}
 use mathlib.Core.List.{List, [], ◌∷◌}
@@ -9,13 +9,14 @@ use Rattle.std.proofs.lemmas.List.{length-take, length-take-le}
 use Prim.Native.Nat.{ℕ, zero, suc, ◌+◌, ◌^◌, ◌≤◌, ◌<◌}
 use native.Mathlib.Nat.{pow-le-pow_right}
 use native.Mathlib.Omega.{arith}
-use borrow.Author.Tests.{le-leb, lt-leb, leb-true, leb-false, eqb-false, lt-ltb, le-ltb, ltb-true, ltb-false, not-true}
+use borrow.Author.Tests.{lt-leb, leb-false, eqb-false, lt-ltb, ltb-true, ltb-false, not-true}
 use lib.Dec.{eqb, leb, ltb}
 use lib.ListN.{length, take}
 use Rattle.laws.proofs.OfTests.{both, by_test_lem}
 use Rattle.ascii.proofs.OfDecimal.{digit_bounds}
 use Rattle.card.specs.Text.{text, found, line_feed, line_end, first_line, same_as, word_in, is_digit, all_digits, is_decimal, digits_value, number_of, number_in, from◌to◌}
 use Rattle.card.specs.Code.{short}
+use Rattle.card.specs.declared.lines.TheConstants.{LONGEST}
 use Rattle.card.proofs.OfKeys.{same_text}
 use Rattle.card.proofs.OfLines.{feed_at, feed_lem, first_end}
 use Rattle.card.proofs.OfDecimals.{value_above}
@@ -45,15 +46,15 @@ end_cut (suc n) (b ∷ t) h = by (eqb b line_feed) (end_cut n t) h
     by true w l = omega (arith, l)
     by false w l = ap suc (w (omega (arith, l)))
 
--- ---- the line feed that the code finds among the first eleven
+-- ---- the line feed that the code finds, a byte behind the longest at most
 
 module _ (t : List ℕ) where
   abbrev pub taken : List ℕ
-  taken = take 11 t
+  taken = take (LONGEST + 1) t
 
   -- is that of the line
   pub feed_found : (n : ℕ) → feed_at taken ≡ Some n → feed_at t ≡ Some n
-  feed_found n h = by_test_lem (ltb (line_end t) 11) near (λ f. far (ltb-false (line_end t) 11 f))
+  feed_found n h = by_test_lem (ltb (line_end t) (LONGEST + 1)) near (λ f. far (ltb-false (line_end t) (LONGEST + 1) f))
     where
       w : (ltb (line_end taken) (length taken) ≡ true) × (line_end taken ≡ n)
       w = cond_some (ltb (line_end taken) (length taken)) (line_end taken) n (sym (feed_lem taken) ∙ h)
@@ -61,13 +62,13 @@ module _ (t : List ℕ) where
       l : line_end taken < length taken
       l = ltb-true (line_end taken) (length taken) w.0
 
-      near : ltb (line_end t) 11 ≡ true → feed_at t ≡ Some n
+      near : ltb (line_end t) (LONGEST + 1) ≡ true → feed_at t ≡ Some n
       near e =
-          let same = end_taken 11 t (ltb-true (line_end t) 11 e) in
-          feed_lem t ∙ rw (lt-ltb (line_end t) (length t) (omega (arith, l, same, length-take 11 t))) (ap Some (sym same ∙ w.1))
+          let same = end_taken (LONGEST + 1) t (ltb-true (line_end t) (LONGEST + 1) e) in
+          feed_lem t ∙ rw (lt-ltb (line_end t) (length t) (omega (arith, l, same, length-take (LONGEST + 1) t))) (ap Some (sym same ∙ w.1))
 
-      far : 11 ≤ line_end t → feed_at t ≡ Some n
-      far e = absurd (nothing (omega (arith, l, end_cut 11 t e)))
+      far : (LONGEST + 1) ≤ line_end t → feed_at t ≡ Some n
+      far e = absurd (nothing (omega (arith, l, end_cut (LONGEST + 1) t e)))
         where
           nothing : 1 ≤ 0 → ⊥
           nothing z = (omega (arith, z))
@@ -82,20 +83,20 @@ module _ (t : List ℕ) where
       there : ltb (line_end t) (length t) ≡ true → short (cond (ltb (line_end t) (length t)) (Some (take (line_end t) t)) None) ≡ None
       there e =
           let within = ltb-true (line_end t) (length t) e in
-          rw e (by_test_lem (ltb (line_end t) 11)
-          (λ n. absurd (no (near within (ltb-true (line_end t) 11 n))))
-          (λ f. rw (lt-leb (length (take (line_end t) t)) 10 (omega (arith, ltb-false (line_end t) 11 f, length-take-le (line_end t) t (omega (arith, within)))))))
+          rw e (by_test_lem (ltb (line_end t) (LONGEST + 1))
+          (λ n. absurd (no (near within (ltb-true (line_end t) (LONGEST + 1) n))))
+          (λ f. rw (lt-leb (length (take (line_end t) t)) LONGEST (omega (arith, ltb-false (line_end t) (LONGEST + 1) f, length-take-le (line_end t) t (omega (arith, within)))))))
         where
-          near : line_end t < length t → line_end t < 11 → ltb (line_end taken) (length taken) ≡ true
-          near a b = lt-ltb (line_end taken) (length taken) (omega (arith, a, b, end_taken 11 t b, length-take 11 t))
+          near : line_end t < length t → line_end t < (LONGEST + 1) → ltb (line_end taken) (length taken) ≡ true
+          near a b = lt-ltb (line_end taken) (length taken) (omega (arith, a, b, end_taken (LONGEST + 1) t b, length-take (LONGEST + 1) t))
 
 -- ---- no value that is right is too long
 
-long_is : (v : List ℕ) → short (Some v) ≡ None → 10 < length v
-long_is v h = by_test_lem (leb (length v) 10) (λ e. absurd (none-some v (sym h ∙ rw e))) (λ e. leb-false (length v) 10 e)
+long_is : (v : List ℕ) → short (Some v) ≡ None → LONGEST < length v
+long_is v h = by_test_lem (leb (length v) LONGEST) (λ e. absurd (none-some v (sym h ∙ rw e))) (λ e. leb-false (length v) LONGEST e)
 
 -- a word
-same_length : (a b : List ℕ) → length b ≤ 10 → 10 < length a → same_as a b ≡ false
+same_length : (a b : List ℕ) → length b ≤ LONGEST → LONGEST < length a → same_as a b ≡ false
 same_length a b k l = by_test_lem (same_as a b) (λ e. absurd (apart (ap length (same_text a b e)))) (λ e. e)
   where
     apart : length a ≡ length b → ⊥
@@ -104,9 +105,9 @@ same_length a b k l = by_test_lem (same_as a b) (λ e. absurd (apart (ap length 
 -- words of a list that are all short enough
 abbrev AllShort : {A : Type 0} → List (String × A) → Type 0
 AllShort [] = ⊤
-AllShort (w ∷ ws) = (length (text w.0) ≤ 10) × AllShort ws
+AllShort (w ∷ ws) = (length (text w.0) ≤ LONGEST) × AllShort ws
 
-no_word : {A : Type 0} (ws : List (String × A)) (v : List ℕ) → AllShort ws → 10 < length v → word_in ws v ≡ None
+no_word : {A : Type 0} (ws : List (String × A)) (v : List ℕ) → AllShort ws → LONGEST < length v → word_in ws v ≡ None
 unfolding word_in
 no_word [] v s l = refl
 no_word (w ∷ ws) v s l = rw (same_length v (text w.0) s.0 l) (no_word ws v s.1 l)
@@ -116,12 +117,12 @@ long_word ws None s h = refl
 long_word ws (Some v) s h = no_word ws v s (long_is v h)
 
 -- a number of 32 bits
-no_number : (v : List ℕ) (low high : ℕ) → high < 2 ^ 32 → 10 < length v → number_in (from low to high) v ≡ None
+no_number : (v : List ℕ) (low high : ℕ) → high < 2 ^ 32 → LONGEST < length v → number_in (from low to high) v ≡ None
 unfolding number_in number_of is_decimal all_digits
 no_number [] low high b l = refl
 no_number (d ∷ []) low high b l = absurd (few l)
   where
-    few : 10 < 1 → ⊥
+    few : LONGEST < 1 → ⊥
     few z = (omega (arith, z))
 no_number (d ∷ c ∷ t) low high b l = by_test_lem (not (eqb d 48) && all_digits (d ∷ c ∷ t)) large (λ e. rw e)
   where

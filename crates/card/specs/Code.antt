@@ -5,6 +5,7 @@ use Rattle.card.specs.declared.Kind.{Kind}
 use Rattle.card.specs.declared.Kind.TheVariants.{Pixel, Vertex, Geometry}
 use Rattle.card.specs.declared.Build.{Build}
 use Rattle.card.specs.declared.Build.TheVariants.{Production, Debug}
+use Rattle.card.specs.declared.lines.TheConstants.{LONGEST}
 
 abbrev pub every_kind : List Kind
 every_kind = Pixel ∷ Vertex ∷ Geometry ∷ []
@@ -21,4 +22,4 @@ malformed (b ∷ c ∷ t) = eqb b (code "0")
 -- a value, unless it is longer than any that is right
 abbrev pub short : Option (List ℕ) → Option (List ℕ)
 short None = None
-short (Some v) = cond (leb (length v) 10) (Some v) None
+short (Some v) = cond (leb (length v) LONGEST) (Some v) None

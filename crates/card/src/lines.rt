@@ -1,6 +1,6 @@
 // A line key=value at the beginning of bytes. Each function answers what the line says and what stands behind it, so that no line is told
 // where it starts; or the number of the line, where it is not exactly right.
-ghost use Rattle.std.specs.Prelude.{◌≡◌, ◌==◌, MatchResult, Some, None, true, position, take};
+ghost use Rattle.std.specs.Prelude.{◌≡◌, ◌==◌, ◌+◌, MatchResult, Some, None, true, position, take};
 ghost use Rattle.ascii.specs.Code.{feedless};
 ghost use Rattle.card.specs.Text.{line_feed, found, behind_first, value_at, number_in, from◌to◌};
 ghost use Rattle.card.specs.Card.{bad_line};
@@ -33,7 +33,7 @@ pub(crate) fn value<'a>(
 // Where the first line feed stands, behind a value that is not too long.
 #[inline(always)]
 fn line_feed(bytes: &[u8]) -> Option<usize>
-    ensures { result ≡ position (λ b. b == line_feed) (take 11 bytes.now) }
+    ensures { result ≡ position (λ b. b == line_feed) (take (LONGEST + 1) bytes.now) }
 {
     bytes.iter().take(LONGEST + 1).position(|b| *b == b'\n')
 }

@@ -1,13 +1,12 @@
 -- `card::lines::value` meets its contract: the bytes begin with the key or not, and a line feed is found behind it or not. Assumes nothing.
-use Rattle.std.proofs.Common.{ap, sym, ◌∙◌, ◌≡◌, ◌+◌, Some, true, length, take}
+use Rattle.std.proofs.Common.{ap, sym, ◌∙◌, ◌+◌, length, take}
 use lib.ListN.{drop}
-use Rattle.std.specs.Cmp.Lexicographic.{pointwise}
-use lib.Dec.{eqb}
 use Rattle.std.proofs.lemmas.Result.{err_from_is_err_and}
 use Rattle.std.proofs.lemmas.Option.{MatchOption-at_none, MatchOption-at_some}
 use Rattle.laws.proofs.OfLists.{to_the_end}
 use Rattle.card.specs.Text.{first_line, behind_first}
 use Rattle.card.specs.Code.{short}
+use Rattle.card.specs.declared.lines.TheConstants.{LONGEST}
 use Rattle.card.proofs.OfLines.{feed_at, line_there}
 use Rattle.card.proofs.OfKeys.{value_other, value_there, behind_there}
 use Rattle.card.proofs.OfShort.{feed_found, feed_missing}
@@ -30,7 +29,7 @@ returns-in_err-end c =
     let nothing = c.in_err-end.ensures.ok_part in
     rw (p.1, p.2) (
       ap short (value_there c.args.key.now c.args.bytes.now c.requires w.0)
-          ∙ feed_missing (drop (length c.args.key.now) c.args.bytes.now) (ap (λ l. feed_at (take 11 l)) (sym w.1) ∙ sym c.line_feed.ensures ∙ nothing),
+          ∙ feed_missing (drop (length c.args.key.now) c.args.bytes.now) (ap (λ l. feed_at (take (LONGEST + 1) l)) (sym w.1) ∙ sym c.line_feed.ensures ∙ nothing),
       refused_with c.line_feed.result nothing c.in_err-end.ensures.value,
     )
 
